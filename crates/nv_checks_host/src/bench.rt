@@ -2,7 +2,7 @@
 
 use nv_bringup::{BLOCKS, BRING_UP, Span, act_of, guest_at, setup_of};
 use nv_entry::{Cqe, Sqe, StatusCode};
-use nv_host::{HostMediator, Stray};
+use nv_host::{Closed, HostMediator, Stray};
 use nv_model::{Act, Reply};
 use nv_plan::{Planned, make_plan};
 use nv_world_model::Event;
@@ -12,8 +12,8 @@ use std::marker::Model;
 /// The host address of the guest's first byte.
 const IMAGE: u64 = 0x10_0000;
 
-/// How many bytes the host has: enough for one lane.
-const HOST: u64 = 0xd0_0000;
+/// How many bytes the host has: enough for two lanes.
+const HOST: u64 = 0x160_0000;
 
 /// The guest's namespace.
 const WHOLE: &[Span] = &[Span {
@@ -21,7 +21,7 @@ const WHOLE: &[Span] = &[Span {
     blocks: BLOCKS,
 }];
 
-/// A mediator of one guest and one lane, and the host's memory.
+/// A mediator of one guest and two lanes, and the host's memory.
 #[derive(Drop)]
 pub struct Bench {
     mediator: HostMediator,
@@ -45,7 +45,7 @@ impl Bench {
     pub fn new(alloc: Global) -> Option<Self> {
         let guest = guest_at(alloc, HOST, IMAGE, WHOLE)?;
         let guests = vec![in alloc; guest].ok()?;
-        let mediator = HostMediator::new(alloc, setup_of(HOST, 1, guests)).ok()?;
+        let mediator = HostMediator::new(alloc, setup_of(HOST, 2, guests)).ok()?;
         let memory = vec![in alloc; 0; mediator.host_bytes() as usize].ok()?;
         Some(Bench {
             mediator,
@@ -87,24 +87,29 @@ impl Bench {
         self.mediator.admin(0, &mut self.memory)
     }
 
-    /// A command of queue 1 is taken.
-    pub fn take(&mut self) -> Reply {
-        self.mediator.take(self.alloc, 0, 1, 0, &self.memory)
+    /// A command of queue 1 is taken for a lane.
+    pub fn take(&mut self, lane: u8) -> Result<Reply, Closed> {
+        self.mediator.take(self.alloc, 0, 1, lane, &self.memory)
+    }
+
+    /// Lane 0 is closed.
+    pub fn close(&mut self) {
+        self.mediator.close(0, &mut self.memory);
     }
 
     /// A part of the list of tag 0's command is read.
     pub fn list(&mut self, addr: u64, len: u64) -> Option<Reply> {
-        let told = self
+        let answer = self
             .mediator
             .list(self.alloc, 0, 0, addr, len, &self.memory)
             .ok()?;
-        Some(told.0)
+        Some(answer.0)
     }
 
-    /// The command of tag 0 is planned and carried out.
-    pub fn submit(&mut self) -> Option<Reply> {
+    /// The command of a tag of a lane is planned and carried out.
+    pub fn submit(&mut self, lane: u8, tag: u8) -> Option<Reply> {
         self.mediator
-            .submit(self.alloc, 0, 0, &mut self.memory)
+            .submit(self.alloc, lane, tag, &mut self.memory)
             .ok()
     }
 
@@ -125,9 +130,9 @@ impl Bench {
         self.mediator.reap(0, &self.memory)
     }
 
-    /// The command of tag 0 is completed.
-    pub fn post(&mut self) -> Reply {
-        self.mediator.post(0, 0, &mut self.memory)
+    /// The command of a tag of lane 0 is completed.
+    pub fn post(&mut self, tag: u8) -> Reply {
+        self.mediator.post(0, tag, &mut self.memory)
     }
 
     /// Whether an event is due.

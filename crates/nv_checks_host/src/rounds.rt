@@ -9,7 +9,7 @@ use nv_world_model::Event;
 use std::process::Abort;
 
 /// A Read of 24 blocks to three pages: the first is named by the entry, and the others by a list of 16 bytes.
-const READ: [u32; 16] = [
+pub const READ: [u32; 16] = [
     0x0007_0002,
     1,
     0,
@@ -29,20 +29,20 @@ const READ: [u32; 16] = [
 ];
 
 /// A Flush.
-const FLUSH: [u32; 16] = [0x0008_0000, 1, 0, 0, 0, 0, 0, 0, 0, 0, 0, 0, 0, 0, 0, 0];
+pub const FLUSH: [u32; 16] = [0x0008_0000, 1, 0, 0, 0, 0, 0, 0, 0, 0, 0, 0, 0, 0, 0, 0];
 
 /// The list of the Read: the pages at 7000h and 8000h.
 const LIST: [u8; 16] = [0, 0x70, 0, 0, 0, 0, 0, 0, 0, 0x80, 0, 0, 0, 0, 0, 0];
 
-// A mediator whose guest has queue pair 1.
-fn brought_up(rt: &impl Abort, bench: Option<Bench>) -> Bench {
+/// A mediator whose guest has queue pair 1.
+pub fn brought_up(rt: &impl Abort, bench: Option<Bench>) -> Bench {
     let mut bench = bench.expect(rt, "a mediator");
     assert!(rt; bench.bring_up());
     bench
 }
 
-// The guest enters a command in a slot of its queue, and it is taken.
-fn enter(rt: &impl Abort, bench: &mut Bench, slot: u64, entry: &[u32; 16], tail: u32) {
+/// The guest enters a command in a slot of its queue.
+pub fn queue(rt: &impl Abort, bench: &mut Bench, slot: u64, entry: &[u32; 16], tail: u32) {
     let addr = SUBMISSIONS + 64 * (slot & 0xf);
     assert!(rt; matches!(bench.store(addr, &bytes_of(entry)), Reply::Done));
     let ring = Act::Doorbell {
@@ -50,8 +50,13 @@ fn enter(rt: &impl Abort, bench: &mut Bench, slot: u64, entry: &[u32; 16], tail:
         value: tail,
     };
     assert!(rt; matches!(bench.act(&ring), Some(Reply::Done)));
+}
+
+/// The guest enters a command in a slot of its queue, and it is taken.
+pub fn enter(rt: &impl Abort, bench: &mut Bench, slot: u64, entry: &[u32; 16], tail: u32) {
+    queue(rt, bench, slot, entry, tail);
     assert!(rt; bench.due(&Event::Take(0, 1, 0)));
-    assert!(rt; matches!(bench.take(), Reply::Done));
+    assert!(rt; matches!(bench.take(0), Ok(Reply::Done)));
 }
 
 // The drive completes the command of tag 0 in a slot of the completion ring, and the guest gets that in the same place of its queue.
@@ -61,15 +66,15 @@ fn complete(rt: &impl Abort, bench: &mut Bench, slot: u16, identifier: u16) {
     assert!(rt; bench.due(&Event::Reap(0)));
     assert!(rt; matches!(bench.reap(), Ok(Reply::Done)));
     assert!(rt; bench.due(&Event::Post(0, 0)));
-    assert!(rt; matches!(bench.post(), Reply::Done));
-    let mut told = [0; 16];
+    assert!(rt; matches!(bench.post(0), Reply::Done));
+    let mut completion = [0; 16];
     assert!(rt;
         matches!(
-            bench.load(COMPLETIONS + 16 * u64::from(slot & 0xf), &mut told),
+            bench.load(COMPLETIONS + 16 * u64::from(slot & 0xf), &mut completion),
             Reply::Done
         )
     );
-    assert_eq!(rt; Cqe::of(&told).cid(), identifier);
+    assert_eq!(rt; Cqe::of(&completion).cid(), identifier);
 }
 
 /// A Read whose pages are named by a list, and then a Flush by a plan that was made elsewhere.
@@ -79,7 +84,7 @@ fn commands_go_to_the_drive_and_back(rt: HostRuntime) {
     assert!(rt; matches!(bench.store(0x5000, &LIST), Reply::Done));
     enter(&rt, &mut bench, 0, &READ, 1);
     assert!(rt; matches!(bench.list(0x5000, 16), Some(Reply::Bytes(_))));
-    assert!(rt; matches!(bench.submit(), Some(Reply::Done)));
+    assert!(rt; matches!(bench.submit(0, 0), Some(Reply::Done)));
     assert_eq!(rt; bench.mediator().tail(0), Some(1));
     let entry = bench.entry(0).expect(&rt, "an entry");
     assert_eq!(rt; (entry.opcode(), entry.cid()), (2, 0));
@@ -96,7 +101,7 @@ fn commands_go_to_the_drive_and_back(rt: HostRuntime) {
 
 /// A completion that names no command changes nothing.
 #[test]
-fn a_stray_completion_is_told(rt: HostRuntime) {
+fn a_stray_completion_is_reported(rt: HostRuntime) {
     let mut bench = brought_up(&rt, Bench::new(rt.alloc()));
     assert!(rt; bench.complete(0, 5));
     assert!(rt; matches!(bench.reap(), Err(Stray)));

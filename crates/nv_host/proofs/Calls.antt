@@ -29,7 +29,7 @@ use Rattle.nv_world_model.specs.declared.event.Event.{Event}
 
 -- the same set-up with another side
 abbrev pub serving : Served → Side → Served
-serving h new = record { setup = h.setup; side = new }
+serving h new = record { setup = h.setup; side = new; closed = h.closed }
 
 -- ---- what calls need
 
@@ -89,6 +89,7 @@ module _ (h : Served) (is : IsServed h) (e : Event) (mine : IsMediators e) (new 
       record {
         next = record {
           setup = refl;
+          closed = refl;
           logs = (λ log z leads.
               let on = step-beside h.setup.geometry e mine h.side new before after r made many z leads.beside in
               (on.reply, call-reached h.setup e h.side new before after r log z mine leads on));
@@ -115,6 +116,7 @@ module _ (h : Served) (is : IsServed h) (e : Event) (mine : IsMediators e) (new 
           accepted = is.accepted;
           sound = is.sound;
           lanes = sym lent-after.kept.many ∙ many ∙ is.kept.many ∙ is.lanes;
+          closed = is.closed;
           kept = lent-after.kept;
           counted = (λ memory w on. still-counted h.setup.geometry (with_side new after own) w on.lanes on.controllers counted-own);
         }

@@ -31,11 +31,11 @@ beside-told geometry e mine side memory b told z on =
     ∙ unplaced-due geometry e mine v z left
 
 module _ (h o : Served) (view : h ≡ o) (memory : List ℕ) (b : Bool) where
-  pub told-led : (e : Event) → IsMediators e → ((w : World) → IsSideOf h.side memory w → b ≡ due h.setup.geometry e w)
-      → (log : List Logged) (z : World) → LeadsTo o memory log z → b ≡ due o.setup.geometry e z
-  told-led e mine told =
-      subst (λ (x : Served). (log : List Logged) (z : World) → LeadsTo x memory log z → b ≡ due x.setup.geometry e z) view
-      (λ log z leads. beside-told h.setup.geometry e mine h.side memory b told z leads.beside)
+  pub told-beside : (e : Event) → IsMediators e → ((w : World) → IsSideOf h.side memory w → b ≡ due h.setup.geometry e w)
+      → (w : World) → IsBeside o.side memory w → b ≡ due o.setup.geometry e w
+  told-beside e mine told =
+      subst (λ (x : Served). (w : World) → IsBeside x.side memory w → b ≡ due x.setup.geometry e w) view
+      (λ w on. beside-told h.setup.geometry e mine h.side memory b told w on)
 
   pub told-live : (is : IsServed h) (lane : ℕ)
       → ((w : World) → IsBeside h.side memory w → IsLive h.setup.geometry w → b ≡ due h.setup.geometry (event.Reap lane) w)

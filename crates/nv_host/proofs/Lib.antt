@@ -1,5 +1,9 @@
 pub mod Accepted
 pub mod Calls
 pub mod Dues
+pub mod Failed
+pub mod GivenUp
+pub mod Over
 pub mod Reaps
+pub mod Ring
 pub mod Starts

@@ -43,6 +43,7 @@ module _ (h : Served) (is : IsServed h) (lane : ℕ) (new : Side) (memory : List
         accepted = is.accepted;
         sound = is.sound;
         lanes = sym lent-after.kept.many ∙ ap (λ (ts : List ℕ). length ts) tails ∙ is.kept.many ∙ is.lanes;
+        closed = is.closed;
         kept = lent-after.kept;
         counted = (λ at w on. still-counted h.setup.geometry (with_side new memory own) w on.lanes on.controllers counted-own);
       }
@@ -73,6 +74,7 @@ module _ {E : Type 0} (h o : Served) (view : h ≡ o) (is : IsServed h) (lane : 
       subst (λ (x : Served). IsNext (event.Reap lane) x memory r (serving h new) memory) view
       (record {
         setup = refl;
+        closed = refl;
         logs = (λ log z leads.
             let on = made z leads.beside (leads-live h.setup is.accepted is.sound h.side memory log z leads) in
             (on.reply, call-reached h.setup (event.Reap lane) h.side new memory memory r log z tt leads on));

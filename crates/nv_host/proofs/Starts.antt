@@ -1,5 +1,5 @@
 -- The mediator of a set-up at its start.
-use Rattle.std.proofs.Common.{◌≡◌, ℕ, length, slice_get, Some, refl, sym, subst, ap, ◌∙◌}
+use Rattle.std.proofs.Common.{◌≡◌, ℕ, Bool, false, List, length, replicate, slice_get, Some, refl, sym, subst, ap, ◌∙◌}
 use Rattle.std.proofs.lemmas.List.{length-replicate}
 use Rattle.nv_core.proofs.FrontLaws.{start-kept, start-side}
 use Rattle.nv_core.specs.Front.{Side, opening_side}
@@ -20,23 +20,24 @@ opening-side-counted geometry lanes memory w on =
     (opening-counted geometry lanes)
 
 -- the side and the layout as they are made
-module _ (a s : SetUp) (same : s ≡ a) (g : Geometry) (side : Side) (is : g ≡ s.geometry) (opens : side ≡ opening_side g s.lanes) where
+module _ (a s : SetUp) (same : s ≡ a) (g : Geometry) (side : Side) (is : g ≡ s.geometry) (opens : side ≡ opening_side g s.lanes)
+    (flags : List Bool) (clear : flags ≡ replicate s.lanes false) where
   abbrev pub made : Served
-  made = record { setup = record { host_bytes = s.host_bytes; lanes = s.lanes; geometry = g }; side = side }
+  made = record { setup = record { host_bytes = s.host_bytes; lanes = s.lanes; geometry = g }; side = side; closed = flags }
 
   setup-is : made.setup ≡ s
   setup-is = ap (λ (x : Geometry). let t : SetUp = record { host_bytes = s.host_bytes; lanes = s.lanes; geometry = x } in t) is
 
-  made-is : (let h : Served = record { setup = s; side = opening_side s.geometry s.lanes } in h) ≡ made
+  made-is : (let h : Served = record { setup = s; side = opening_side s.geometry s.lanes; closed = flags } in h) ≡ made
   made-is =
-      sym (ap (λ (t : SetUp). let h : Served = record { setup = t; side = opening_side s.geometry s.lanes } in h) setup-is)
-      ∙ ap (λ (f : Side). let h : Served = record { setup = made.setup; side = f } in h)
+      sym (ap (λ (t : SetUp). let h : Served = record { setup = t; side = opening_side s.geometry s.lanes; closed = flags } in h) setup-is)
+      ∙ ap (λ (f : Side). let h : Served = record { setup = made.setup; side = f; closed = flags } in h)
       (sym (opens ∙ ap (λ (x : Geometry). opening_side x s.lanes) is))
 
   pub starts-at : IsAtStart a made
   starts-at =
       subst (λ (t : SetUp). IsAtStart t made) same
-      (subst (IsAtStart s) made-is (record { setup = refl; led = start-reached s }))
+      (subst (IsAtStart s) made-is (record { setup = refl; closed = clear; led = start-reached s }))
 
   pub starts-served : IsAccepted a → ((number : ℕ) (guest : Guest) → slice_get g.guests number ≡ Some guest → IsSound guest.memory_map) → IsServed made
   starts-served accepted sound =
@@ -44,6 +45,7 @@ module _ (a s : SetUp) (same : s ≡ a) (g : Geometry) (side : Side) (is : g ≡
         accepted = subst IsAccepted (sym same ∙ sym setup-is) accepted;
         sound = sound;
         lanes = ap (λ (f : Side). length f.lanes) opens ∙ length-replicate s.lanes opening_lane;
+        closed = ap (λ (bs : List Bool). length bs) clear ∙ length-replicate s.lanes false;
         kept = subst (IsKept g) (sym opens) (start-kept g s.lanes);
         counted = subst (AreCounted g) (sym opens) (opening-side-counted g s.lanes);
       }

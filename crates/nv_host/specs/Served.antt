@@ -1,5 +1,5 @@
 -- The mediator of a host that has memory and a drive of its own: what the code holds, which logs lead to it, and what a call comes to (profile).
-use Rattle.std.specs.Prelude.{◌≡◌, ℕ, Bool, true, false, List, [], ◌∷◌, ◌++◌, Option, length, replicate, slice_get, Some, None}
+use Rattle.std.specs.Prelude.{◌≡◌, ℕ, Bool, true, false, List, [], ◌∷◌, ◌++◌, not, Option, length, replicate, slice_get, Some, None}
 use Rattle.nv_core.specs.Front.{IsBeside, IsSideOf, IsStepBeside, Side}
 use Rattle.nv_core.specs.Kept.{IsKept}
 use Rattle.nv_laws_front.specs.Reached.{IsReached}
@@ -19,10 +19,19 @@ use Rattle.nv_world_model.specs.declared.logged.Logged.{Logged}
 
 -- ---- what it is
 
--- what it was made of, and the mediator's side of the world
+-- what it was made of, the mediator's side of the world, and of each lane whether it was closed
 pub record Served : Type 0 where
   pub setup : SetUp
   pub side : Side
+  pub closed : List Bool
+
+-- whether a lane is there and was closed
+abbrev pub is_set : Option Bool → Bool
+is_set None = false
+is_set (Some set) = set
+
+abbrev pub is_closed : Served → (lane : ℕ) → Bool
+is_closed h lane = is_set (slice_get h.closed lane)
 
 -- ---- set-ups
 
@@ -44,6 +53,7 @@ LeadsTo h memory log z = IsReached h.setup h.side memory log z
 -- a call was the next event of each log that leads to it: its reply is the definition's, and the log with it leads to what is there after the call
 pub record IsNext (e : Event) (old : Served) (before : List ℕ) (r : Reply) (new : Served) (after : List ℕ) : Type 0 where
   pub setup : new.setup ≡ old.setup
+  pub closed : new.closed ≡ old.closed
   pub logs : (log : List Logged) (z : World) → LeadsTo old before log z
       → ((step old.setup.geometry e z).reply ≡ r)
       × LeadsTo new after (log ++ record { event = e; reply = r } ∷ []) (step old.setup.geometry e z).world
@@ -55,9 +65,10 @@ pub record IsDone (e : Event) (old : Served) (before : List ℕ) (r : Reply) (ne
   pub worlds : (w : World) → IsBeside old.side before w → IsStepBeside old.setup.geometry e w r new.side after
   pub dull : is_telling r ≡ false → (new ≡ old) × (after ≡ before)
 
--- at the start of a set-up: the log without events leads there
+-- at the start of a set-up: the log without events leads there, and no lane is closed
 pub record IsAtStart (s : SetUp) (h : Served) : Type 0 where
   pub setup : h.setup ≡ s
+  pub closed : h.closed ≡ replicate s.lanes false
   pub led : LeadsTo h (replicate s.host_bytes 0) [] (world_at_start s)
 
 -- no log leads there
@@ -82,6 +93,7 @@ pub record IsServed (h : Served) : Type 0 where
   pub accepted : IsAccepted h.setup
   pub sound : (number : ℕ) (guest : Guest) → slice_get h.setup.geometry.guests number ≡ Some guest → IsSound guest.memory_map
   pub lanes : length h.side.lanes ≡ h.setup.lanes
+  pub closed : length h.closed ≡ h.setup.lanes
   pub kept : IsKept h.setup.geometry h.side
   pub counted : AreCounted h.setup.geometry h.side
 
@@ -102,3 +114,24 @@ is_served (event.DevFail lane slot st) = false
 is_served (event.Keep block) = false
 is_served (event.Reap lane) = true
 is_served (event.Post lane tag) = true
+
+-- whether it may be made now: nothing is taken for a lane that was closed
+abbrev pub is_offered : Served → Event → Bool
+is_offered h (event.Take guest queue lane) = not (is_closed h lane)
+is_offered h e = is_served e
+
+-- whether it reads a completion, so that what the drive has done meets in it
+abbrev pub is_reap : Event → Bool
+is_reap (event.Guest guest a) = false
+is_reap (event.Admin guest) = false
+is_reap (event.Take guest queue lane) = false
+is_reap (event.List lane tag addr len) = false
+is_reap (event.Submit lane tag) = false
+is_reap (event.GiveUp lane tag) = false
+is_reap (event.DevTake lane) = false
+is_reap (event.DevMove lane slot number) = false
+is_reap (event.DevPost lane slot) = false
+is_reap (event.DevFail lane slot st) = false
+is_reap (event.Keep block) = false
+is_reap (event.Reap lane) = true
+is_reap (event.Post lane tag) = false

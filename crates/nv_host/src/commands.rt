@@ -1,13 +1,14 @@
 //! The mediator's own events: commands from the guests' queues to the drive, and back.
 
-ghost use Rattle.std.specs.Prelude.{◌≡◌, ℕ, IfOk, IfSome, List, None, Ok, OnErr, length, slice_get};
+ghost use Rattle.std.specs.Prelude.{◌≡◌, ℕ, IfOk, IfSome, List, None, Ok, OnErr, false, length, slice_get, true};
 ghost use Rattle.std.specs.Result.{result_ok};
 ghost use Rattle.nv_core.specs.Front.{IsReaped};
 ghost use Rattle.nv_core.specs.Reaping.{answer_of};
 ghost use Rattle.nv_core.specs.Seat.{bytes_told};
 ghost use Rattle.nv_core.specs.Submit.{IsCurrentIn};
-ghost use Rattle.nv_host.specs.Served.{IsDone, IsNext, IsUnreached};
+ghost use Rattle.nv_host.specs.Served.{IsDone, IsNext, IsUnreached, is_closed};
 
+use crate::closing::Closed;
 use crate::host_mediator::HostMediator;
 use nv_core::Stray;
 use nv_mem::{Bytes, MemoryCell, NoMemory};
@@ -19,7 +20,32 @@ use std::alloc::Global;
 impl HostMediator {
     /// The command at the front of a guest's I/O queue, 1 to 8, gets the lowest free tags of a lane, as many as it may become physical commands. Idle
     /// where none may be taken, Busy where fewer tags are free, Ignored where there is no such guest, queue or lane.
+    ///
+    /// # Errors
+    ///
+    /// [`Closed`] where the lane was closed: nothing has changed.
     pub fn take<C: MemoryCell>(
+        &mut self,
+        alloc: Global,
+        guest: u8,
+        queue: u16,
+        lane: u8,
+        memory: &[C],
+    ) -> Result<Reply, Closed>
+        requires { length (C.bytes memory.now) ≡ self.old.setup.host_bytes }
+        ensures ok { IfOk result (λ reply. IsDone (Event.Take guest queue lane) self.old (C.bytes memory.now) reply self.new (C.bytes memory.now)) }
+        ensures open { IfOk result (λ _. is_closed self.old lane ≡ false) }
+        ensures err { OnErr result ((is_closed self.old lane ≡ true) × (self.new ≡ self.old)) }
+        ensures setup { self.new.setup ≡ self.old.setup }
+    {
+        if self.is_closed(lane) {
+            return Err(Closed);
+        }
+        Ok(self.take_open(alloc, guest, queue, lane, memory))
+    }
+
+    // The same for a lane whether or not it was closed.
+    fn take_open<C: MemoryCell>(
         &mut self,
         alloc: Global,
         guest: u8,
@@ -121,6 +147,8 @@ impl HostMediator {
         ensures ok { IfOk result (λ reply. IsNext (Event.Reap lane) self.old (C.bytes memory.now) reply self.new (C.bytes memory.now)) }
         ensures same { (result ≡ Ok Reply.Done → ⊥) → self.new ≡ self.old }
         ensures stray { OnErr result (IsUnreached self.old (C.bytes memory.now)) }
+        ensures tails { self.new.side.tails ≡ self.old.side.tails }
+        ensures closed { self.new.closed ≡ self.old.closed }
         ensures setup { self.new.setup ≡ self.old.setup }
     {
         self.front.reap(&self.layout, lane, memory)

@@ -1,7 +1,8 @@
 //! Whether an event is due.
 
-ghost use Rattle.std.specs.Prelude.{◌≡◌, ◌&&◌, ℕ, List, length};
-ghost use Rattle.nv_host.specs.Served.{LeadsTo, is_served};
+ghost use Rattle.std.specs.Prelude.{◌≡◌, ◌&&◌, ℕ, List, false, length};
+ghost use Rattle.nv_core.specs.Front.{IsBeside};
+ghost use Rattle.nv_host.specs.Served.{LeadsTo, is_closed, is_offered, is_reap};
 ghost use Rattle.nv_world_model.specs.Due.{due};
 ghost use Rattle.nv_world_model.specs.World.{World};
 ghost use Rattle.nv_world_model.specs.declared.logged.Logged.{Logged};
@@ -11,17 +12,21 @@ use nv_mem::MemoryCell;
 use nv_world_model::Event;
 
 impl HostMediator {
-    /// Whether an event is one of Admin, Take, Reap and Post and would be done now. It is what a worker asks before it makes such an event. Nothing changes,
-    /// no memory is taken, and what it costs does not depend on the host.
+    /// Whether an event is one of Admin, Take, Reap and Post and would be done now; a Take for a lane that was closed is not due. It is what a worker asks
+    /// before it makes such an event. Nothing changes, no memory is taken, and what it costs does not depend on the host.
     #[tactic(auto, unfolding(nv_world_model::specs::Due::due))]
     pub fn due<C: MemoryCell>(&self, event: &Event, memory: &[C]) -> bool
         requires { length (C.bytes memory.now) ≡ self.now.setup.host_bytes }
-        ensures { (log : List Logged) (z : World) → LeadsTo self.now (C.bytes memory.now) log z →
-            result ≡ (is_served event.now && due self.now.setup.geometry event.now z) }
+        ensures logs { (log : List Logged) (z : World) → LeadsTo self.now (C.bytes memory.now) log z →
+            result ≡ (is_offered self.now event.now && due self.now.setup.geometry event.now z) }
+        ensures worlds { (w : World) → IsBeside self.now.side (C.bytes memory.now) w → is_reap event.now ≡ false →
+            result ≡ (is_offered self.now event.now && due self.now.setup.geometry event.now w) }
     {
         match event {
             Event::Admin(guest) => self.admin_due(*guest),
-            Event::Take(guest, queue, lane) => self.take_due(*guest, *queue, *lane, memory),
+            Event::Take(guest, queue, lane) => {
+                self.is_open(*lane) && self.take_due(*guest, *queue, *lane, memory)
+            }
             Event::Reap(lane) => self.reap_due(*lane, memory),
             Event::Post(lane, tag) => self.post_due(*lane, *tag),
             Event::Guest(_guest, _act) => false,
@@ -38,8 +43,7 @@ impl HostMediator {
 
     // Whether a guest's admin queue has something to do.
     fn admin_due(&self, guest: u8) -> bool
-        ensures { (memory : List ℕ) (log : List Logged) (z : World) → LeadsTo self.now memory log z →
-            result ≡ due self.now.setup.geometry (Event.Admin guest) z }
+        ensures { (memory : List ℕ) (w : World) → IsBeside self.now.side memory w → result ≡ due self.now.setup.geometry (Event.Admin guest) w }
     {
         self.front.admin_due(&self.layout, guest)
     }
@@ -47,8 +51,7 @@ impl HostMediator {
     // Whether a command of a guest's I/O queue may be taken, and as many tags of the lane are free as it wants.
     fn take_due<C: MemoryCell>(&self, guest: u8, queue: u16, lane: u8, memory: &[C]) -> bool
         requires { length (C.bytes memory.now) ≡ self.now.setup.host_bytes }
-        ensures { (log : List Logged) (z : World) → LeadsTo self.now (C.bytes memory.now) log z →
-            result ≡ due self.now.setup.geometry (Event.Take guest queue lane) z }
+        ensures { (w : World) → IsBeside self.now.side (C.bytes memory.now) w → result ≡ due self.now.setup.geometry (Event.Take guest queue lane) w }
     {
         self.front
             .take_due(&self.layout, guest, queue, lane, memory)
@@ -65,8 +68,7 @@ impl HostMediator {
 
     // Whether all tags of the command that goes by a tag have ended, and it may be completed or runs out.
     fn post_due(&self, lane: u8, tag: u8) -> bool
-        ensures { (memory : List ℕ) (log : List Logged) (z : World) → LeadsTo self.now memory log z →
-            result ≡ due self.now.setup.geometry (Event.Post lane tag) z }
+        ensures { (memory : List ℕ) (w : World) → IsBeside self.now.side memory w → result ≡ due self.now.setup.geometry (Event.Post lane tag) w }
     {
         self.front.post_due(&self.layout, lane, tag)
     }

@@ -11,13 +11,15 @@ use std::marker::Model;
 
 /// The mediator between up to 16 guests and a drive, for a host that has the memory and the drive.
 ///
-/// Its type keeps that its set-up was accepted, and what the mediator's side keeps whatever is in memory.
+/// Its type keeps that its set-up was accepted, and what the mediator's side keeps whatever is in memory. Beside that it has a flag for each lane: whether
+/// it was closed.
 #[derive(Drop)]
 pub struct HostMediator {
     pub(crate) layout: Layout,
     pub(crate) host_bytes: u64,
     pub(crate) lanes: u8,
     pub(crate) front: Front,
+    pub(crate) closed: Vec<bool>,
 }
 
 impl Model for HostMediator {
@@ -25,9 +27,9 @@ impl Model for HostMediator {
 
     ghost Value = { Served };
 
-    ghost view = { λ m. record { setup = record { host_bytes = m.host_bytes; lanes = m.lanes; geometry = m.layout }; side = m.front } };
+    ghost view = { λ m. record { setup = record { host_bytes = m.host_bytes; lanes = m.lanes; geometry = m.layout }; side = m.front; closed = m.closed.items } };
 
-    ghost invariant = { λ m. IsServed (record { setup = record { host_bytes = m.host_bytes; lanes = m.lanes; geometry = m.layout }; side = m.front }) };
+    ghost invariant = { λ m. IsServed (record { setup = record { host_bytes = m.host_bytes; lanes = m.lanes; geometry = m.layout }; side = m.front; closed = m.closed.items }) };
 }
 
 impl HostMediator {
@@ -56,11 +58,13 @@ impl HostMediator {
         let lanes = setup.lanes as u8;
         let layout = setup.into_layout(alloc)?;
         let front = Front::new(alloc, &layout, lanes)?;
+        let closed = vec![in alloc; false; usize::from(lanes)]?;
         Ok(HostMediator {
             layout,
             host_bytes,
             lanes,
             front,
+            closed,
         })
     }
 
@@ -73,7 +77,8 @@ impl HostMediator {
     /// That there is such a log rests on the drive and on the host, which nothing here can prove. Between two calls the drive does what the definition's
     /// events of the physical controller do, DevTake, DevMove, DevPost, DevFail and Keep, in any order and number, and the memory is afterwards as they
     /// make it. Nothing else changes the memory or the disk but guests, whose stores are events of their own, each to its guest's memory alone. Then the
-    /// calls, in the order in which they were made, and the drive's events between them are a log that leads there.
+    /// calls, in the order in which they were made, and the drive's events between them are a log that leads there. [`HostMediator::close`] is no event,
+    /// so that argument ends where a lane is closed.
     #[inline(always)]
     pub fn promise(&self)
         ensures accepted { IsAccepted self.now.setup }

@@ -15,17 +15,25 @@
 //! event. Such a log has the calls with their replies, and what the drive did between them. Nobody has to keep one. [`HostMediator::promise`] does
 //! nothing: its contract says that every log that leads there keeps the whole promise.
 //!
+//! [`HostMediator::close`] is no event: it ends the commands of one lane where the drive's completions can't be relied on any more. Its contract says by
+//! the lane's tags what becomes of them, in whatever memory (`specs/Closing`), and that nothing else changes. That the commands end as a controller that
+//! fails them would have it is not proved by logs: no contract gives a log that leads to the mediator after a close. What each call says of each world in
+//! which the mediator may be holds then as before.
+//!
 //! The type keeps what no byte of memory can spoil. So each call is safe, ends and answers, whatever the drive or a guest has written; a completion
 //! that names no command on its way is a [`Stray`], and changes nothing.
 #![tactic(auto)]
 
 mod asking;
+mod closing;
 mod commands;
 mod due;
+mod failing;
 mod guests;
 mod host_mediator;
 mod rings;
 
+pub use closing::Closed;
 pub use host_mediator::HostMediator;
 pub use nv_core::{Holder, Stray};
 pub use nv_mediator::{Extent, GuestSetup, Refusal, Setup};

@@ -1,4 +1,4 @@
-use Rattle.std.proofs.Common.{ap, arith, sym, ◌∙◌}
+use Rattle.std.proofs.Common.{ℕ, false, replicate, ap, arith, sym, ◌∙◌}
 use Rattle.nv_host.proofs.Accepted.{lanes-small, may-have}
 use Rattle.nv_host.proofs.Starts.{starts-at, starts-served}
 use Rattle.nv_world_model.specs.SetUp.{SetUp}
@@ -16,10 +16,10 @@ overflow_cast-lanes c =
 pub invariant_of-result : goal.invariant_of-result
 invariant_of-result c =
     let s : SetUp = record { host_bytes = c.setup.inside.host_bytes; lanes = c.setup.inside.lanes; geometry = record { mediator = c.setup.inside.mediator; disk_blocks = c.setup.inside.disk_blocks; guests = c.setup.inside.guests.items } } in
-    starts-served c.args.setup s c.setup.view_is c.in_ok-layout.layout c.in_ok-front.front (c.in_ok-layout.ensures.given ∙ ap (λ (t : SetUp). t.geometry) (sym c.setup.view_is)) c.in_ok-front.ensures c.requires
+    starts-served c.args.setup s c.setup.view_is c.in_ok-layout.layout c.in_ok-front.front (c.in_ok-layout.ensures.given ∙ ap (λ (t : SetUp). t.geometry) (sym c.setup.view_is)) c.in_ok-front.ensures c.in_ok-closed.closed.items (c.in_ok-closed.ensures.items_if_clones_equal (λ y e. e) ∙ ap (λ (n : ℕ). replicate n false) c.from.ensures) c.requires
     c.in_ok-layout.ensures.sound
 
 pub returns : goal.returns
 returns c =
     let s : SetUp = record { host_bytes = c.setup.inside.host_bytes; lanes = c.setup.inside.lanes; geometry = record { mediator = c.setup.inside.mediator; disk_blocks = c.setup.inside.disk_blocks; guests = c.setup.inside.guests.items } } in
-    starts-at c.args.setup s c.setup.view_is c.in_ok-layout.layout c.in_ok-front.front (c.in_ok-layout.ensures.given ∙ ap (λ (t : SetUp). t.geometry) (sym c.setup.view_is)) c.in_ok-front.ensures
+    starts-at c.args.setup s c.setup.view_is c.in_ok-layout.layout c.in_ok-front.front (c.in_ok-layout.ensures.given ∙ ap (λ (t : SetUp). t.geometry) (sym c.setup.view_is)) c.in_ok-front.ensures c.in_ok-closed.closed.items (c.in_ok-closed.ensures.items_if_clones_equal (λ y e. e) ∙ ap (λ (n : ℕ). replicate n false) c.from.ensures)

@@ -1,0 +1,30 @@
+use Rattle.std.proofs.Common.{◌∙◌, suc, subst}
+use Rattle.nv_core.specs.Front.{IsReaped}
+use Rattle.nv_host.proofs.Failed.{alone-twice, reap-fewer}
+use Rattle.nv_world_model.specs.SetUp.{SetUp}
+use Rattle.nv_host.proofs.host_mediator.HostMediator.drain.Goals as goal
+
+pub loop-smaller : goal.loop-smaller
+loop-smaller g c =
+    reap-fewer c.loop.self.setup.geometry c.args.lane c.loop.self.side c.has_reaped.new.self.side (g.C.MemoryCell.bytes c.args.memory.now)
+    (c.has_reaped.ensures.answer.0 c.loop-test.true) (c.has_reaped.ensures.done c.loop-test.true)
+
+pub loop-preserved : goal.loop-preserved
+loop-preserved g c =
+    let so_far = c.loop.invariant in
+    record {
+      reads = (
+        suc so_far.reads.0,
+        (
+          c.loop.self.side,
+          (
+            so_far.reads.1,
+            subst (λ (s : SetUp). IsReaped s.geometry c.args.lane c.loop.self.side c.has_reaped.new.self.side (g.C.MemoryCell.bytes c.args.memory.now)) so_far.setup
+                (c.has_reaped.ensures.done c.loop-test.true),
+          ),
+        ),
+      );
+      alone = alone-twice c.args.lane c.args.self.now.side c.loop.self.side c.has_reaped.new.self.side so_far.alone c.has_reaped.ensures.alone;
+      setup = c.has_reaped.ensures.setup ∙ so_far.setup;
+      closed = c.has_reaped.ensures.closed ∙ so_far.closed;
+    }

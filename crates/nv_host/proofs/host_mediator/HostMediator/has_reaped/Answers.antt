@@ -1,0 +1,12 @@
+use Rattle.std.proofs.Common.{◌≡◌, ap, sym, ◌∙◌}
+use Rattle.std.specs.Prelude.{Ok}
+use Rattle.std.specs.Result.{result_ok}
+use Rattle.nv_host.proofs.Failed.{done-alone}
+use Rattle.nv_model.specs.declared.reply.Reply.TheVariants as reply
+use Rattle.nv_host.proofs.host_mediator.HostMediator.has_reaped.Goals as goal
+
+pub returns-in-Ok-Done-clause-alone : goal.returns-in-Ok-Done-clause-alone
+returns-in-Ok-Done-clause-alone g c =
+    let is : c.reap.result ≡ Ok reply.Done = cc in
+    done-alone c.args.self.now.setup.geometry c.args.lane c.args.self.now.side c.reap.new.self.side (g.C.MemoryCell.bytes c.args.memory.now)
+    (sym c.reap.ensures.answer ∙ ap result_ok is) (c.reap.ensures.ended is) c.reap.ensures.tails

@@ -1,0 +1,19 @@
+use Rattle.std.proofs.Common.{◌≡◌, ◌∙◌, arith, length, rules}
+use Rattle.nv_host.proofs.Ring.{next-stored, store-alone}
+use Rattle.nv_host.proofs.host_mediator.HostMediator.put_entry.Goals as goal
+
+pub returns-clause-next : goal.returns-clause-next
+returns-clause-next g c = λ l found.
+    let inside = c.next_slot.ensures.inside in
+    let lent = c.requires.lent in
+    let many : length c.bytes.result ≡ 16 = search rules in
+    next-stored c.args.self.now.setup.geometry c.args.lane (g.C.MemoryCell.bytes c.args.memory.now) c.bytes.result (g.C.MemoryCell.bytes c.store.new.memory)
+    c.next_slot.result many (omega (arith, inside, lent)) c.store.ensures.bytes l (c.next_slot.ensures.value l found) ∙ c.bytes.ensures
+
+pub returns-clause-ring : goal.returns-clause-ring
+returns-clause-ring g c =
+    let inside = c.next_slot.ensures.inside in
+    let lent = c.requires.lent in
+    let many : length c.bytes.result ≡ 16 = search rules in
+    store-alone c.args.self.now.setup.geometry c.args.lane (g.C.MemoryCell.bytes c.args.memory.now) c.bytes.result (g.C.MemoryCell.bytes c.store.new.memory)
+    c.next_slot.result many (omega (arith, inside, lent)) c.store.ensures.bytes c.next_slot.ensures.low c.next_slot.ensures.high

@@ -1,0 +1,187 @@
+//! How the commands of a lane that is closed end: by completions that the mediator writes in the drive's place.
+
+ghost use Rattle.std.specs.Prelude.{◌≡◌, ◌↔◌, ◌<◌, ◌+◌, ◌≤◌, IsTrue, Some, false, length, slice_get};
+ghost use Rattle.nv_core.specs.Front.{IsReaped};
+ghost use Rattle.nv_core.specs.Reaping.{answer_of, next_completion, waits_in};
+ghost use Rattle.nv_host.specs.Closing.{AreEach, IsDrained, IsFailing, IsLaneAlone, IsRingAlone, failed, failed_at, given_up, given_up_by};
+ghost use Rattle.nv_model.specs.Queue.{cqe_size};
+ghost use Rattle.nv_world_model.specs.Area.{completion_slot, ring_size};
+ghost use Rattle.nv_world_model.specs.World.{Lane};
+
+use crate::host_mediator::HostMediator;
+use nv_entry::{Cqe, StatusCode};
+use nv_mem::MemoryCell;
+use nv_model::Reply;
+use nv_model::limits::{CQE_SIZE, LANE_SIZE, PAGE_SIZE, SUBMISSION_RING_PAGES};
+
+/// How many tags a lane has.
+const TAGS: u8 = 64;
+
+impl HostMediator {
+    /// The completions of a lane that are there are read, up to one that names no command.
+    pub(crate) fn drain<C: MemoryCell>(&mut self, lane: u8, memory: &[C])
+        requires { length (C.bytes memory.now) ≡ self.old.setup.host_bytes }
+        ensures reaped { IsDrained self.old.setup.geometry lane (C.bytes memory.now) self.old.side self.new.side }
+        ensures alone { IsLaneAlone lane self.old.side self.new.side }
+        ensures setup { self.new.setup ≡ self.old.setup }
+        ensures closed { self.new.closed ≡ self.old.closed }
+    {
+        // Each has ended a tag that was in flight, so there are at most 64.
+        while self.has_reaped(lane, memory) {}
+    }
+
+    /// Each command of a lane that was handed on fails.
+    pub(crate) fn fail_each<C: MemoryCell>(&mut self, lane: u8, memory: &mut [C])
+        requires there { lane < self.old.setup.lanes }
+        requires lent { length (C.bytes memory.old) ≡ self.old.setup.host_bytes }
+        ensures each { AreEach (λ _ t. failed t) lane self.old.side self.new.side }
+        ensures alone { IsLaneAlone lane self.old.side self.new.side }
+        ensures ring { IsRingAlone self.old.setup.geometry lane (C.bytes memory.old) (C.bytes memory.new) }
+        ensures setup { self.new.setup ≡ self.old.setup }
+        ensures closed { self.new.closed ≡ self.old.closed }
+    {
+        // With a field comes what is kept of the lane.
+        let _known = &self.front;
+        for tag in 0..TAGS {
+            self.fail(lane, tag, memory);
+        }
+    }
+
+    /// Each command of a lane that waits for its plan is given up.
+    pub(crate) fn give_up_each(&mut self, lane: u8)
+        ensures each { AreEach given_up lane self.old.side self.new.side }
+        ensures alone { IsLaneAlone lane self.old.side self.new.side }
+        ensures setup { self.new.setup ≡ self.old.setup }
+        ensures closed { self.new.closed ≡ self.old.closed }
+    {
+        // With a field comes what is kept of the lane.
+        let _known = &self.front;
+        for tag in 0..TAGS {
+            self.give_up_led(lane, tag);
+        }
+    }
+
+    /// No completion of a lane waits any more.
+    pub(crate) fn mute<C: MemoryCell>(&self, lane: u8, memory: &mut [C])
+        requires there { lane < self.now.setup.lanes }
+        requires lent { length (C.bytes memory.old) ≡ self.now.setup.host_bytes }
+        ensures ring { IsRingAlone self.now.setup.geometry lane (C.bytes memory.old) (C.bytes memory.new) }
+        ensures idle { waits_in self.now.setup.geometry lane (slice_get self.now.side.lanes lane) (C.bytes memory.new) ≡ false }
+    {
+        if !self.waits(lane, memory) {
+            return;
+        }
+        let there = self.next_entry(lane, memory);
+        let other = Cqe::new(0, 0, 0, 0, !there.phase(), StatusCode::Success.status());
+        self.put_entry(lane, &other, memory);
+    }
+
+    // The command of a tag fails where it was handed on: the completion with which the drive fails it is written and read. Where there is none, the slot
+    // has its bytes again.
+    fn fail<C: MemoryCell>(&mut self, lane: u8, tag: u8, memory: &mut [C])
+        requires there { lane < self.old.setup.lanes }
+        requires lent { length (C.bytes memory.old) ≡ self.old.setup.host_bytes }
+        ensures each { AreEach (failed_at tag) lane self.old.side self.new.side }
+        ensures alone { IsLaneAlone lane self.old.side self.new.side }
+        ensures ring { IsRingAlone self.old.setup.geometry lane (C.bytes memory.old) (C.bytes memory.new) }
+        ensures setup { self.new.setup ≡ self.old.setup }
+        ensures closed { self.new.closed ≡ self.old.closed }
+    {
+        let there = self.next_entry(lane, memory);
+        let phase = self.wanted_phase(lane, &there, memory);
+        let entry = self.failing_entry(lane, tag, phase);
+        self.put_entry(lane, &entry, memory);
+        if !self.has_reaped(lane, memory) {
+            self.put_entry(lane, &there, memory);
+        }
+    }
+
+    // The command that goes by a tag is given up where it waits for its plan.
+    fn give_up_led(&mut self, lane: u8, tag: u8)
+        ensures each { AreEach (given_up_by tag) lane self.old.side self.new.side }
+        ensures alone { IsLaneAlone lane self.old.side self.new.side }
+        ensures setup { self.new.setup ≡ self.old.setup }
+        ensures closed { self.new.closed ≡ self.old.closed }
+    {
+        let _told = self.front.give_up(&self.layout, lane, tag);
+    }
+
+    // Whether the next completion of a lane was there, and has ended a tag; nothing has changed where not.
+    fn has_reaped<C: MemoryCell>(&mut self, lane: u8, memory: &[C]) -> bool
+        requires { length (C.bytes memory.now) ≡ self.old.setup.host_bytes }
+        ensures answer { IsTrue result ↔ (answer_of self.old.setup.geometry lane (slice_get self.old.side.lanes lane) (C.bytes memory.now) ≡ Some Reply.Done) }
+        ensures done { IsTrue result → IsReaped self.old.setup.geometry lane self.old.side self.new.side (C.bytes memory.now) }
+        ensures same { result ≡ false → self.new ≡ self.old }
+        ensures alone { IsLaneAlone lane self.old.side self.new.side }
+        ensures setup { self.new.setup ≡ self.old.setup }
+        ensures closed { self.new.closed ≡ self.old.closed }
+    {
+        matches!(self.reap(lane, memory), Ok(Reply::Done))
+    }
+
+    // Whether the slot of a lane's completion ring that is read next has the phase tag that is wanted.
+    fn waits<C: MemoryCell>(&self, lane: u8, memory: &[C]) -> bool
+        requires { length (C.bytes memory.now) ≡ self.now.setup.host_bytes }
+        ensures { result ≡ waits_in self.now.setup.geometry lane (slice_get self.now.side.lanes lane) (C.bytes memory.now) }
+    {
+        self.front.reap_due(&self.layout, lane, memory)
+    }
+
+    // The phase tag that a lane wants of its next completion, where this is what is in its slot.
+    fn wanted_phase<C: MemoryCell>(&self, lane: u8, there: &Cqe, memory: &[C]) -> bool
+        requires lent { length (C.bytes memory.now) ≡ self.now.setup.host_bytes }
+        requires there { (l : Lane) → slice_get self.now.side.lanes lane ≡ Some l →
+            there.now ≡ next_completion self.now.setup.geometry lane l (C.bytes memory.now) }
+        ensures { (l : Lane) → slice_get self.now.side.lanes lane ≡ Some l → result ≡ l.phase }
+    {
+        self.waits(lane, memory) == there.phase()
+    }
+
+    // The completion with which the drive fails the command of a tag: it has taken all entries by then.
+    fn failing_entry(&self, lane: u8, tag: u8, phase: bool) -> Cqe
+        ensures { IsFailing lane tag phase result }
+    {
+        let head = self.tail(lane).unwrap_or(0);
+        let status = StatusCode::InternalError.status();
+        Cqe::new(0, head, u16::from(lane) + 1, u16::from(tag), phase, status)
+    }
+
+    // What is in the slot of a lane's completion ring that is read next.
+    fn next_entry<C: MemoryCell>(&self, lane: u8, memory: &[C]) -> Cqe
+        requires there { lane < self.now.setup.lanes }
+        requires lent { length (C.bytes memory.now) ≡ self.now.setup.host_bytes }
+        ensures { (l : Lane) → slice_get self.now.side.lanes lane ≡ Some l →
+            result ≡ next_completion self.now.setup.geometry lane l (C.bytes memory.now) }
+    {
+        let mut bytes = [0; 16];
+        C::load(memory, self.next_slot(lane), &mut bytes);
+        Cqe::of(&bytes)
+    }
+
+    // Writes an entry there.
+    fn put_entry<C: MemoryCell>(&self, lane: u8, entry: &Cqe, memory: &mut [C])
+        requires there { lane < self.now.setup.lanes }
+        requires lent { length (C.bytes memory.old) ≡ self.now.setup.host_bytes }
+        ensures next { (l : Lane) → slice_get self.now.side.lanes lane ≡ Some l →
+            next_completion self.now.setup.geometry lane l (C.bytes memory.new) ≡ entry.now }
+        ensures ring { IsRingAlone self.now.setup.geometry lane (C.bytes memory.old) (C.bytes memory.new) }
+    {
+        C::store(memory, self.next_slot(lane), &entry.bytes());
+    }
+
+    // The host address of that slot.
+    fn next_slot(&self, lane: u8) -> u64
+        requires { lane < self.now.setup.lanes }
+        ensures value { (l : Lane) → slice_get self.now.side.lanes lane ≡ Some l →
+            result ≡ completion_slot self.now.setup.geometry.mediator lane l.head }
+        ensures inside { result + cqe_size ≤ self.now.setup.host_bytes }
+        ensures low { completion_slot self.now.setup.geometry.mediator lane 0 ≤ result }
+        ensures high { result + cqe_size ≤ completion_slot self.now.setup.geometry.mediator lane ring_size }
+    {
+        let head = self.head(lane).unwrap_or(0);
+        self.layout.mediator()
+            + LANE_SIZE * u64::from(lane)
+            + PAGE_SIZE * SUBMISSION_RING_PAGES
+            + CQE_SIZE * u64::from(head)
+    }
+}
