@@ -3,7 +3,7 @@ use Rattle.std.specs.Prelude.{◌≡◌, List, None}
 use Rattle.nv_mediator.specs.Hosted.{HasLog, Hosted, IsLog, hosted_world, setup_of}
 use Rattle.nv_world_model.specs.declared.logged.Logged.{Logged}
 use Rattle.nv_world_model.specs.Headline.{Headline}
-use Rattle.nv_world_model.specs.SetUp.{refusal_of}
+use Rattle.nv_world_model.specs.SetUp.{refusal_of, world_at_start}
 
 -- Its set-up was accepted: no two guests share a byte or a block, and none has a byte of the mediator's area. Some log of events leads from the
 -- set-up's start to its world. And every log that leads there keeps the whole promise: each event is contained; and each guest that is disciplined
@@ -11,4 +11,4 @@ use Rattle.nv_world_model.specs.SetUp.{refusal_of}
 pub record IsPromised (h : Hosted) : Type 0 where
   pub accepted : refusal_of (setup_of h) ≡ None
   pub led : HasLog h
-  pub kept : (log : List Logged) → IsLog log h → Headline (setup_of h) log (hosted_world h)
+  pub kept : (log : List Logged) → IsLog log h → Headline h.geometry (world_at_start (setup_of h)) log (hosted_world h)

@@ -74,7 +74,7 @@ pub record IsStep (geometry : Geometry) (e : Event) (old : State) (reply : Reply
 
 -- the world is that of the start, in a host of that many bytes and with so many lanes
 pub record IsOpening (geometry : Geometry) (host_bytes lanes : ℕ) (s : State) : Type 0 where
-  pub world : world_of s ≡ opening_world geometry lanes
+  pub world : world_of s ≡ opening_world (λ _. 0) (λ _ _. 0) geometry lanes
   pub host : length s.host ≡ host_bytes
   pub mediator : s.device.mediator ≡ geometry.mediator
   pub blocks : length s.device.disk ≡ geometry.disk_blocks

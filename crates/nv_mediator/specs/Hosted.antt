@@ -57,7 +57,7 @@ pub record IsHosted (h : Hosted) : Type 0 where
 -- of every log that leads here the whole promise holds: what each disciplined guest none of whose commands failed has seen, and has, is a
 -- run of its own private controller's, and each step is contained
 abbrev pub IsPromised : Hosted → Type 0
-IsPromised h = (log : List Logged) → IsLog log h → Headline (setup_of h) log (world_of h.state)
+IsPromised h = (log : List Logged) → IsLog log h → Headline h.geometry (world_at_start (setup_of h)) log (world_of h.state)
 
 -- ---- a step
 

@@ -15,7 +15,7 @@ use Rattle.nv_model.specs.Admin.{AdminStep, NothingToDo, QueueFull, Stepped, adm
 use Rattle.nv_model.specs.Private.{Acted, ActStep, AdminQueueStep, After, AtWork, Bag, Ended, GiveUpStep, JudgeStep, KeepStep, MoveStep, PostStep}
 use Rattle.nv_model.specs.Private.{Private, Progress, RunOutStep, Shape, Step, TakeStep, Taken, Unjudged, acted, administered, completed_at}
 use Rattle.nv_model.specs.Private.{controlled, ending, further, given_up_at, judged_at, may_take, moved_at, others, posted_at, progress_of, put}
-use Rattle.nv_model.specs.Private.{register_replied, run_of, run_out_at, start, step, taken_at, unit_done, unit_left, verdict_in, with_taken}
+use Rattle.nv_model.specs.Private.{register_replied, run_of, run_out_at, start_with, step, taken_at, unit_done, unit_left, verdict_in, with_taken}
 use Rattle.nv_model.specs.Laws.{IsCompletionInPlace, IsInPlace, IsMappedPiece, IsProgressInPlace, IsSubmissionInPlace, IsTakenInPlace, IsUnitWithin, QueuesInPlace}
 use Rattle.nv_model.proofs.Judged.{verdict-sound}
 use Rattle.nv_model.proofs.QueuesKept.{QueuesHave-opening, by_test}
@@ -162,9 +162,8 @@ module _ (shape : Shape) where
       (step-bag s p place.taken)
 
   -- and so is the start
-  pub IsInPlace-start : IsInPlace shape start
-  unfolding start
-  IsInPlace-start =
+  pub IsInPlace-start : (memory : ℕ → ℕ) (disk : ℕ → ℕ → ℕ) → IsInPlace shape (start_with memory disk)
+  IsInPlace-start memory disk =
       record {
         queues = QueuesHave-opening shape.mapped (IsSubmissionInPlace shape.mapped) (IsCompletionInPlace shape.mapped) (IsKept-in_place shape.mapped);
         taken = λ name. tt;

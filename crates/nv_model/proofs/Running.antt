@@ -17,7 +17,7 @@ use Rattle.nv_model.specs.Admin.{AdminStep, NothingToDo, QueueFull, Stepped, adm
 use Rattle.nv_model.specs.Private.{Acted, ActStep, AdminQueueStep, After, AtWork, Bag, Ended, GiveUpStep, JudgeStep, KeepStep, MoveStep, PostStep}
 use Rattle.nv_model.specs.Private.{Private, Progress, Run, RunOutStep, Shape, Step, TakeStep, Taken, Unjudged, acted, administered, completed_at}
 use Rattle.nv_model.specs.Private.{controlled, ending, further, given_up_at, judged_at, may_take, moved_at, others, posted_at, progress_of}
-use Rattle.nv_model.specs.Private.{put, register_replied, run_of, run_out_at, start, step, taken_at, unit_done, unit_left, verdict_in, with_taken}
+use Rattle.nv_model.specs.Private.{put, register_replied, run_of, run_out_at, start_with, step, taken_at, unit_done, unit_left, verdict_in, with_taken}
 use Rattle.nv_model.specs.Running.{AlongEveryRun, AreCounted, IsConsistent, IsOfIoQueue, IsRunning, IsTogether}
 use Rattle.nv_model.proofs.CountedBags.{counted-put, counted-some, index-less, index-more}
 use Rattle.nv_model.proofs.Endings.{and-true}
@@ -241,9 +241,9 @@ module _ (shape : Shape) where
       further-running (step shape s p) steps (step-running s p was) (λ q there. run_of-running steps q there)
 
 -- it holds at the start
-pub start-running : IsRunning start
-unfolding start opening
-start-running =
+pub start-running : (memory : ℕ → ℕ) (disk : ℕ → ℕ → ℕ) → IsRunning (start_with memory disk)
+unfolding opening
+start-running memory disk =
     record {
       counted = record { bound = 0; none_beyond = λ name _. refl; count = λ queue. none queue_count queue };
       of_io_queues = λ name. tt;
@@ -255,7 +255,7 @@ start-running =
     none (suc n) zero = refl
     none (suc n) (suc queue) = none n queue
 
--- it holds along every run from the start
+-- it holds along every run from a start
 pub along-running : AlongEveryRun IsRunning
-along-running shape steps r is =
-    subst (λ (o : Option Run). IfSome o (λ e. IsRunning e.state)) is (run_of-running shape steps start start-running)
+along-running memory disk shape steps r is =
+    subst (λ (o : Option Run). IfSome o (λ e. IsRunning e.state)) is (run_of-running shape steps (start_with memory disk) (start-running memory disk))

@@ -11,7 +11,7 @@ use Rattle.nv_model.specs.Admin.{AdminStep, NothingToDo, QueueFull, Stepped, adm
 use Rattle.nv_model.specs.Private.{Acted, ActStep, AdminQueueStep, After, AtWork, Ended, GiveUpStep, JudgeStep, KeepStep, MoveStep}
 use Rattle.nv_model.specs.Private.{PostStep, Private, Progress, Run, RunOutStep, Shape, Step, TakeStep, Taken, Unjudged, acted, administered}
 use Rattle.nv_model.specs.Private.{completed_at, controlled, ending, further, given_up_at, judged_at, may_take, moved_at, others}
-use Rattle.nv_model.specs.Private.{posted_at, register_replied, run_of, run_out_at, start, step, taken_at, unit_done, unit_left, with_taken}
+use Rattle.nv_model.specs.Private.{posted_at, register_replied, run_of, run_out_at, step, taken_at, unit_done, unit_left, with_taken}
 use Rattle.nv_model.specs.Queue.{SubmissionQueue, CompletionQueue}
 use Rattle.nv_model.specs.Laws.{QueuesHave}
 use Rattle.nv_model.proofs.QueuesKept.{HaveBehind, IsKept, QueuesHave-opening, by_test, doorbell-kept, post-kept, ran_out-kept, reg_write-kept, took-kept}
@@ -139,7 +139,3 @@ module _ (shape : Shape) (P : SubmissionQueue → Type 0) (Q : CompletionQueue �
   run_of-kept [] p order = order
   run_of-kept (s ∷ steps) p order =
       run_further-kept steps (step shape s p) (step-kept s p order) (λ q there. run_of-kept steps q there)
-
-  pub QueuesHave-start : QueuesHave P Q start.controller
-  unfolding start
-  QueuesHave-start = QueuesHave-opening shape.mapped P Q closed

@@ -63,9 +63,13 @@ pub record Shape : Type 0 where
 abbrev pub no_commands : Bag
 no_commands name = None
 
--- the start: bytes and blocks are zero, marks clear
+-- the start, with these bytes in memory and blocks: marks are clear
+abbrev pub start_with : (memory : ℕ → ℕ) (disk : ℕ → ℕ → ℕ) → Private
+start_with memory disk = record { memory = memory; disk = disk; kept = (λ _. false); controller = opening; bag = no_commands }
+
+-- with zeros
 unfoldable pub start : Private
-start = record { memory = (λ _. 0); disk = (λ _ _. 0); kept = (λ _. false); controller = opening; bag = no_commands }
+start = start_with (λ _. 0) (λ _ _. 0)
 
 -- ---- what a unit does
 

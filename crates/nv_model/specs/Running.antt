@@ -3,7 +3,7 @@ use Rattle.std.specs.Prelude.{◌≡◌, ℕ, zero, suc, ◌+◌, ◌<◌, ◌�
 use Rattle.nv_entry.specs.Status.{bit}
 use Rattle.nv_model.specs.Queue.{SubmissionQueue, CompletionQueue}
 use Rattle.nv_model.specs.Controller.{Controller, Deletion, is_enabled, no_queues, queue_count, queue_of}
-use Rattle.nv_model.specs.Private.{Bag, Private, Run, Shape, Step, Taken, run_of, start}
+use Rattle.nv_model.specs.Private.{Bag, Private, Run, Shape, Step, Taken, run_of, start_with}
 
 -- ---- counts
 
@@ -77,6 +77,8 @@ pub record HasTaken (bag : Bag) : Type 0 where
   pub command : Taken
   pub is_there : bag name ≡ Some command
 
--- this holds after every run from the start
+-- this holds after every run from a start, whatever memory and blocks had
 abbrev pub AlongEveryRun : (Private → Type 0) → Type 0
-AlongEveryRun P = (shape : Shape) (steps : List Step) (r : Run) → run_of shape steps start ≡ Some r → P r.state
+AlongEveryRun P =
+    (memory : ℕ → ℕ) (disk : ℕ → ℕ → ℕ) (shape : Shape) (steps : List Step) (r : Run)
+    → run_of shape steps (start_with memory disk) ≡ Some r → P r.state

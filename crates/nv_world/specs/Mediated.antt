@@ -92,4 +92,4 @@ IsContained k = AreContained k.geometry k.log (world_at_start (setup_of k))
 -- its log keeps the whole promise: what each disciplined guest none of whose commands failed has seen, and has, is a run of
 -- its own private controller's, and each step is contained
 abbrev pub KeepsPromise : Kept → Type 0
-KeepsPromise k = Headline (setup_of k) k.log (world_of k.state)
+KeepsPromise k = Headline k.geometry (world_at_start (setup_of k)) k.log (world_of k.state)

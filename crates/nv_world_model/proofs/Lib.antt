@@ -18,3 +18,4 @@ pub mod ShareParts
 pub mod ShareWholes
 pub mod TagCounts
 pub mod OwnUnits
+pub mod BlankStart

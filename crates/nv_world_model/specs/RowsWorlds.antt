@@ -105,7 +105,7 @@ brought_up =
 
 -- a world of that set-up and one lane as it is made
 abbrev pub at_start : World
-at_start = opening_world set_up 1
+at_start = opening_world (λ _. 0) (λ _ _. 0) set_up 1
 
 -- the doorbell for the first example is rung, the example is taken, and then the deletion of its submission queue is requested
 abbrev pub deletion_rung : List Event

@@ -129,6 +129,6 @@ refusal_of s = refusal_within script_limits s
 unfoldable pub host_refusal_of : SetUp → Option Refusal
 host_refusal_of s = refusal_within host_limits s
 
--- the world that a set-up makes
+-- the world that a script's set-up makes: bytes and blocks are zero
 abbrev pub world_at_start : SetUp → World
-world_at_start s = opening_world s.geometry s.lanes
+world_at_start s = opening_world (λ _. 0) (λ _ _. 0) s.geometry s.lanes

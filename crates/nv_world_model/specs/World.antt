@@ -57,12 +57,12 @@ pub record World : Type 0 where
 abbrev pub opening_lane : Lane
 opening_lane = record { head = 0; phase = true; tags = replicate tag_count Free }
 
--- bytes and blocks are zero, marks clear, rings empty, tags free, and no controller is enabled
-unfoldable pub opening_world : Geometry → (lanes : ℕ) → World
-opening_world geometry lanes =
+-- with these bytes in memory and blocks: marks are clear, rings empty, tags free, and no controller is enabled
+unfoldable pub opening_world : (host : ℕ → ℕ) (disk : ℕ → ℕ → ℕ) → Geometry → (lanes : ℕ) → World
+opening_world host disk geometry lanes =
     record {
-      host = (λ _. 0);
-      disk = (λ _ _. 0);
+      host = host;
+      disk = disk;
       kept = (λ _. false);
       device = replicate lanes opening_device_lane;
       lanes = replicate lanes opening_lane;

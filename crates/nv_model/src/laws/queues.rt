@@ -4,7 +4,7 @@ ghost use Rattle.nv_entry.specs.Status.{StatusField};
 ghost use Rattle.nv_model.specs.Queue.{SubmissionQueue, CompletionQueue, ahead, front_taken, is_full, after_post, unacknowledged, waiting};
 ghost use Rattle.nv_model.specs.Controller.{Controller, Posted, completion_queue, doorbell, front, head_rung, opening, post, ran_out, reg_write, submission_queue, took};
 ghost use Rattle.nv_model.specs.Admin.{Stepped, admin};
-ghost use Rattle.nv_model.specs.Private.{Private, Run, Shape, Step, run_of, start};
+ghost use Rattle.nv_model.specs.Private.{Private, Run, Shape, Step, run_of, start_with};
 ghost use Rattle.nv_model.specs.Laws.{QueuesInOrder};
 
 /// Whatever a controller does, its queues stay in order.
@@ -22,13 +22,13 @@ pub fn queues_stay_in_order()
         QueuesInOrder c → admin mapped blocks c memory ≡ Stepped after behind → QueuesInOrder after }
 {}
 
-/// The queues are in order at the start and after each run.
+/// The queues are in order at the start, whatever memory and blocks have, and after each run.
 pub fn runs_keep_queues_in_order()
-    ensures start { QueuesInOrder start.controller }
+    ensures start { (memory : ℕ → ℕ) (disk : ℕ → ℕ → ℕ) → QueuesInOrder (start_with memory disk).controller }
     ensures run { (shape : Shape) (steps : List Step) (p : Private) (r : Run) →
         QueuesInOrder p.controller → run_of shape steps p ≡ Some r → QueuesInOrder r.state.controller }
-    ensures from_start { (shape : Shape) (steps : List Step) (r : Run) →
-        run_of shape steps start ≡ Some r → QueuesInOrder r.state.controller }
+    ensures from_start { (memory : ℕ → ℕ) (disk : ℕ → ℕ → ℕ) (shape : Shape) (steps : List Step) (r : Run) →
+        run_of shape steps (start_with memory disk) ≡ Some r → QueuesInOrder r.state.controller }
 {}
 
 /// A queue in order holds one entry less than it has slots at most, and a completion queue is full exactly where it holds that many.

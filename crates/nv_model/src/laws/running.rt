@@ -4,12 +4,12 @@ ghost use Rattle.nv_entry.specs.Submission.{cid_of};
 ghost use Rattle.nv_entry.specs.Status.{StatusField};
 ghost use Rattle.nv_model.specs.Queue.{SubmissionQueue, CompletionQueue, is_full};
 ghost use Rattle.nv_model.specs.Controller.{Deletion, completion_queue, is_enabled, post, queue_count, running, submission_queue};
-ghost use Rattle.nv_model.specs.Private.{After, PostStep, Private, Run, RunOutStep, Shape, Step, Taken, ending, run_of, start, step};
+ghost use Rattle.nv_model.specs.Private.{After, PostStep, Private, Run, RunOutStep, Shape, Step, Taken, ending, run_of, start_with, step};
 ghost use Rattle.nv_model.specs.Running.{AlongEveryRun, HasTaken, IsRunning, count_below};
 
-/// The start is consistent, and each step and each run stay so.
+/// The start is consistent, whatever memory and blocks have, and each step and each run stay so.
 pub fn runs_stay_consistent()
-    ensures start { IsRunning start }
+    ensures start { (memory : ℕ → ℕ) (disk : ℕ → ℕ → ℕ) → IsRunning (start_with memory disk) }
     ensures step { (shape : Shape) (s : Step) (p : Private) (a : After) →
         IsRunning p → step shape s p ≡ Some a → IsRunning a.state }
     ensures run { (shape : Shape) (steps : List Step) (p : Private) (r : Run) →

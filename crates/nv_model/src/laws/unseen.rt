@@ -2,7 +2,7 @@
 ghost use Rattle.std.specs.Prelude.{◌≡◌, ℕ, List, All, Some};
 ghost use Rattle.nv_model.specs.Dialogue.{asked};
 ghost use Rattle.nv_model.specs.Judge.{judge};
-ghost use Rattle.nv_model.specs.Private.{After, Private, Run, Shape, Step, run_of, start, step};
+ghost use Rattle.nv_model.specs.Private.{After, Private, Run, Shape, Step, run_of, start_with, step};
 ghost use Rattle.nv_model.specs.Laws.{IsInPlace, IsMappedSpan, LookAlike, RunsAlike, StepsAlike, still_wanted};
 
 /// What the judging of a command reads is mapped, whatever the memory holds.
@@ -19,7 +19,7 @@ pub fn judging_wants_mapped_memory()
 
 /// Queues lie in mapped memory, and commands work in mapped memory and in the namespace: so it is at the start, and so it stays.
 pub fn states_stay_in_place()
-    ensures start { (shape : Shape) → IsInPlace shape start }
+    ensures start { (shape : Shape) (memory : ℕ → ℕ) (disk : ℕ → ℕ → ℕ) → IsInPlace shape (start_with memory disk) }
     ensures step { (shape : Shape) (s : Step) (p : Private) (a : After) →
         IsInPlace shape p → step shape s p ≡ Some a → IsInPlace shape a.state }
     ensures run { (shape : Shape) (steps : List Step) (p : Private) (r : Run) →
@@ -39,7 +39,7 @@ pub fn runs_do_the_same()
     ensures seen { (shape : Shape) (steps : List Step) (p q : Private) (r s : Run) →
         LookAlike shape p q → IsInPlace shape p →
         run_of shape steps p ≡ Some r → run_of shape steps q ≡ Some s → r.seen ≡ s.seen }
-    ensures from_start { (shape : Shape) (before steps : List Step) (r : Run) (q : Private) →
-        run_of shape before start ≡ Some r → LookAlike shape r.state q →
+    ensures from_start { (memory : ℕ → ℕ) (disk : ℕ → ℕ → ℕ) (shape : Shape) (before steps : List Step) (r : Run) (q : Private) →
+        run_of shape before (start_with memory disk) ≡ Some r → LookAlike shape r.state q →
         RunsAlike shape (run_of shape steps r.state) (run_of shape steps q) }
 {}

@@ -1,5 +1,5 @@
 use Rattle.std.proofs.Common.{IfSome, Option, subst, true}
-use Rattle.nv_model.specs.Private.{Run, start}
+use Rattle.nv_model.specs.Private.{Run, start_with}
 use Rattle.nv_model.specs.Laws.{IsCompletionInOrder, IsSubmissionInOrder, QueuesInOrder}
 use Rattle.nv_model.proofs.QueueOrder.{IsKept-in_order}
 use Rattle.nv_model.proofs.QueuesKept.{QueuesHave-opening}
@@ -7,8 +7,7 @@ use Rattle.nv_model.proofs.StepsKept.{run_of-kept}
 use Rattle.nv_model.proofs.laws.queues.runs_keep_queues_in_order.Goals as goal
 
 pub returns-clause-start : goal.returns-clause-start
-unfolding start
-returns-clause-start c =
+returns-clause-start c memory disk =
     QueuesHave-opening (λ _. true) IsSubmissionInOrder IsCompletionInOrder (IsKept-in_order (λ _. true))
 
 pub returns-clause-run : goal.returns-clause-run
@@ -17,4 +16,4 @@ returns-clause-run c shape steps p r order is =
     (run_of-kept shape IsSubmissionInOrder IsCompletionInOrder (IsKept-in_order shape.mapped) steps p order)
 
 pub returns-clause-from_start : goal.returns-clause-from_start
-returns-clause-from_start c shape steps r is = returns-clause-run c shape steps start r (returns-clause-start c) is
+returns-clause-from_start c memory disk shape steps r is = returns-clause-run c shape steps (start_with memory disk) r (returns-clause-start c memory disk) is

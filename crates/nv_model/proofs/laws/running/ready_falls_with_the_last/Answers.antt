@@ -15,6 +15,6 @@ returns-clause-others c shape p a name other is apart =
     ap (λ (bag : Bag). bag other) (step-runs_out shape name p a is).bag ∙ put-elsewhere p.bag name None other apart
 
 pub returns-clause-ready : goal.returns-clause-ready
-returns-clause-ready c shape steps r along within a name is =
-    let was = subst (λ (o : Option After). IfSome o (λ b. IsRunning b.state)) is (step-running within (RunOutStep name) r.state (along-running shape steps r along)) in
+returns-clause-ready c memory disk shape steps r along within a name is =
+    let was = subst (λ (o : Option After). IfSome o (λ b. IsRunning b.state)) is (step-running within (RunOutStep name) r.state (along-running memory disk shape steps r along)) in
     ready-taken a.state.controller a.state.bag was (step-runs_out within name r.state a is).out

@@ -1,5 +1,5 @@
 use Rattle.std.proofs.Common.{IfSome, Option, subst}
-use Rattle.nv_model.specs.Private.{After, Run, start}
+use Rattle.nv_model.specs.Private.{After, Run, start_with}
 use Rattle.nv_model.specs.Running.{IsRunning}
 use Rattle.nv_model.proofs.Running.{run_of-running, start-running, step-running}
 use Rattle.nv_model.proofs.laws.running.runs_stay_consistent.Goals as goal
@@ -16,4 +16,4 @@ returns-clause-run c shape steps p r was is =
     subst (λ (o : Option Run). IfSome o (λ e. IsRunning e.state)) is (run_of-running shape steps p was)
 
 pub returns-clause-from_start : goal.returns-clause-from_start
-returns-clause-from_start c shape steps r is = returns-clause-run c shape steps start r start-running is
+returns-clause-from_start c memory disk shape steps r is = returns-clause-run c shape steps (start_with memory disk) r (start-running memory disk) is

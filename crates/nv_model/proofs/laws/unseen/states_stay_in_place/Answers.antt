@@ -5,7 +5,7 @@ use Rattle.nv_model.proofs.InPlace.{IsInPlace-start, run_of-in_place, step-in_pl
 use Rattle.nv_model.proofs.laws.unseen.states_stay_in_place.Goals as goal
 
 pub returns-clause-start : goal.returns-clause-start
-returns-clause-start c = IsInPlace-start
+returns-clause-start c shape memory disk = IsInPlace-start shape memory disk
 
 pub returns-clause-step : goal.returns-clause-step
 returns-clause-step c shape s p a place is =
