@@ -2,7 +2,7 @@
 use Rattle.std.proofs.Common.{◌≡◌, ℕ, ◌/◌, ◌%◌, List, [], ◌∷◌, length, replicate, slice_get, Option, Some, None, refl, sym, ap, subst}
 use mathlib.Core.Path.{fun_ext}
 use Rattle.nv_model.specs.Controller.{opening}
-use Rattle.nv_model.specs.Private.{no_commands, start}
+use Rattle.nv_model.specs.Private.{no_commands}
 use Rattle.nv_model.specs.Running.{IsConsistent as IsRunningWith}
 use Rattle.nv_model.proofs.Running.{start-running}
 use Rattle.nv_world_model.specs.declared.event.Event.{Event}
@@ -29,24 +29,23 @@ lane-none (Some l) tag number each =
     subst (λ x. command_in (slice_get x.tags tag) tag number ≡ None) (each l refl)
     (free-none (slice_get (replicate tag_count Free) tag) tag number (λ t at. slice_get-replicate tag_count tag Free t at))
 
-opening-none : (geometry : Geometry) (lanes number : ℕ) → commands (opening_world geometry lanes) number ≡ no_commands
+opening-none : (host : ℕ → ℕ) (disk : ℕ → ℕ → ℕ) (geometry : Geometry) (lanes number : ℕ) → commands (opening_world host disk geometry lanes) number ≡ no_commands
 unfolding commands opening_world
-opening-none geometry lanes number =
+opening-none host disk geometry lanes number =
     fun_ext (λ name. lane-none (slice_get (replicate lanes opening_lane) (name / tag_count)) (name % tag_count) number
     (λ l at. slice_get-replicate lanes (name / tag_count) opening_lane l at))
 
 opening-runs : IsRunningWith opening no_commands
-unfolding start
-opening-runs = start-running
+opening-runs = start-running (λ _. 0) (λ _ _. 0)
 
 -- at the start nothing is counted
-pub opening-counted : (geometry : Geometry) (lanes : ℕ) → IsCounted geometry (opening_world geometry lanes)
+pub opening-counted : (host : ℕ → ℕ) (disk : ℕ → ℕ → ℕ) (geometry : Geometry) (lanes : ℕ) → IsCounted geometry (opening_world host disk geometry lanes)
 unfolding opening_world
-opening-counted geometry lanes =
+opening-counted host disk geometry lanes =
     record {
       running = (λ number guest c given at.
-          subst (λ x. IsRunningWith x (commands (opening_world geometry lanes) number)) (slice_get-replicate (length geometry.guests) number opening c at)
-          (subst (IsRunningWith opening) (sym (opening-none geometry lanes number)) opening-runs));
+          subst (λ x. IsRunningWith x (commands (opening_world host disk geometry lanes) number)) (slice_get-replicate (length geometry.guests) number opening c at)
+          (subst (IsRunningWith opening) (sym (opening-none host disk geometry lanes number)) opening-runs));
     }
 
 -- and behind any events what is taken

@@ -55,22 +55,22 @@ opening-groups geometry lanes lane l at tag part command there has =
     let none : NoPart ≡ part = ap part_of (slice_get-replicate tag_count tag Free t.t t.is) ∙ t.part_is in
     let bad : None ≡ Some command = ap command_of none ∙ has in cc
 
-opening-of_tags : (geometry : Geometry) (lanes : ℕ) → IsConsistentOfTags geometry (opening_world geometry lanes)
+opening-of_tags : (host : ℕ → ℕ) (disk : ℕ → ℕ → ℕ) (geometry : Geometry) (lanes : ℕ) → IsConsistentOfTags geometry (opening_world host disk geometry lanes)
 unfolding opening_world
-opening-of_tags geometry lanes =
+opening-of_tags host disk geometry lanes =
     record {
       sides = length-replicate lanes opening_lane ∙ sym (length-replicate lanes opening_device_lane);
       controllers = length-replicate (length geometry.guests) opening;
       lanes = (λ lane l d at there.
-          subst (λ x. IsLane geometry lane (λ _. 0) l x) (slice_get-replicate lanes lane opening_device_lane d there)
-          (subst (λ x. IsLane geometry lane (λ _. 0) x opening_device_lane) (slice_get-replicate lanes lane opening_lane l at)
-          (lane-opening geometry lane (λ _. 0))));
+          subst (λ x. IsLane geometry lane host l x) (slice_get-replicate lanes lane opening_device_lane d there)
+          (subst (λ x. IsLane geometry lane host x opening_device_lane) (slice_get-replicate lanes lane opening_lane l at)
+          (lane-opening geometry lane host)));
       queues = (λ number guest c given at.
           subst (QueuesInPlace (mapped (regions_of guest))) (slice_get-replicate _ number opening c at)
           (QueuesHave-opening (mapped (regions_of guest)) (IsSubmissionInPlace (mapped (regions_of guest))) (IsCompletionInPlace (mapped (regions_of guest)))
           (IsKept-in_place (mapped (regions_of guest)))));
     }
 
-pub opening-consistent : (geometry : Geometry) (lanes : ℕ) → IsConsistent geometry (opening_world geometry lanes)
+pub opening-consistent : (host : ℕ → ℕ) (disk : ℕ → ℕ → ℕ) (geometry : Geometry) (lanes : ℕ) → IsConsistent geometry (opening_world host disk geometry lanes)
 unfolding opening_world
-opening-consistent geometry lanes = record { of_tags = opening-of_tags geometry lanes; groups = opening-groups geometry lanes }
+opening-consistent host disk geometry lanes = record { of_tags = opening-of_tags host disk geometry lanes; groups = opening-groups geometry lanes }

@@ -1,13 +1,15 @@
 -- Each event, and each list of events, keeps the phase tags of the completion rings; and they are so at the start.
-use Rattle.std.proofs.Common.{◌≡◌, ℕ, ◌+◌, false, ◌&&◌, ◌==◌, nat_le, List, [], ◌∷◌, length, slice_get, arith, refl, sym, subst}
+use Rattle.std.proofs.Common.{◌≡◌, ℕ, ◌+◌, ◌*◌, ◌<◌, false, ◌&&◌, ◌==◌, nat_le, List, [], ◌∷◌, length, replicate, slice_get, arith, refl, sym, ap, ◌∙◌, subst}
 use Rattle.std.specs.List.{list_any}
 use Rattle.std.proofs.lemmas.Bool.{eqb-false}
+use Rattle.std.proofs.lemmas.List.{length-replicate}
 use Rattle.nv_entry.specs.Completion.{phase_of}
 use Rattle.nv_entry.specs.Layout.{bits, dword, number_at}
 use Rattle.nv_entry.specs.Status.{bit}
 use Rattle.nv_entry.specs.StatusCode.{done_with}
 use Rattle.nv_entry.specs.declared.status_code.StatusCode.TheVariants.{InternalError}
 use Rattle.nv_mem.specs.GuestMap.{all_mapped}
+use Rattle.nv_model.proofs.Agreeing.{bytes_from-agree}
 use Rattle.nv_model.specs.Admin.{admin}
 use Rattle.nv_model.specs.Controller.{front}
 use Rattle.nv_model.specs.Limits.{part_size}
@@ -16,22 +18,23 @@ use Rattle.nv_model.specs.Private.{acted}
 use Rattle.nv_model.specs.Queue.{cqe_size, is_empty}
 use Rattle.nv_world_model.specs.declared.event.Event.{Event}
 use Rattle.nv_world_model.specs.declared.event.Event.TheVariants as event
-use Rattle.nv_world_model.specs.Area.{completion_slot}
+use Rattle.nv_world_model.specs.Area.{completion_slot, ring_size}
 use Rattle.nv_world_model.specs.Device.{opening_device_lane}
 use Rattle.nv_world_model.specs.Geometry.{Geometry, regions_of, shape_of}
 use Rattle.nv_world_model.specs.Plan.{plan_over}
 use Rattle.nv_world_model.specs.Seat.{owner_of, seat}
+use Rattle.nv_world_model.specs.SetUp.{SetUp}
 use Rattle.nv_world_model.specs.Step.{acted_by, acted_in, administered_in, device_fail, device_move, device_post, device_take, is_io_queue, is_success, list_at}
 use Rattle.nv_world_model.specs.Step.{post_all, reap, replay, statuses_of, step, submit_by, take_from}
 use Rattle.nv_world_model.specs.World.{World, group, opening_lane, opening_world, tag_of}
 use Rattle.nv_world_model.proofs.Seats.{owner_of-is}
 use Rattle.nv_laws_sound.specs.Consistent.{IsConsistent}
 use Rattle.nv_laws_sound.specs.LaidOut.{IsLaidOut}
-use Rattle.nv_laws_sound.proofs.Lists.{slice_get-replicate}
+use Rattle.nv_laws_sound.proofs.Lists.{slice_get-below, slice_get-replicate}
 use Rattle.nv_laws_sound.proofs.ManyLanes.{lanes-kept}
 use Rattle.nv_laws_sound.proofs.Steps.{step-consistent}
 use Rattle.nv_laws_sound.proofs.Walks.{device-walk, either, ended-walk, guest-walk, held-walk, lane-walk, owner-walk, taken-walk}
-use Rattle.nv_laws_sound.specs.Phased.{ArePhased, IsPhased}
+use Rattle.nv_laws_sound.specs.Phased.{ArePhased, AreRingsClear, IsPhased, phase_at}
 use Rattle.nv_laws_sound.proofs.phases.Ends.{answered-phased, left-phased, post-phased, reaped-phased}
 use Rattle.nv_laws_sound.proofs.phases.Events.{act-phased, admin-phased, ended-phased, front-phased, kept-phased, listed-phased, moved-phased, took-phased}
 use Rattle.nv_laws_sound.proofs.phases.Handed.{submit-phased}
@@ -116,12 +119,32 @@ no-phase : (addr : ℕ) → phase_of (bytes_from (λ _. 0) addr cqe_size) ≡ bi
 unfolding bits dword number_at bytes_from
 no-phase addr = refl
 
-lane-phased : (geometry : Geometry) (lane : ℕ) → IsPhased geometry (λ _. 0) lane opening_lane.head opening_lane.phase opening_device_lane.posted opening_device_lane.phase
-lane-phased geometry lane = record { wants = refl; written = (λ at less. absurd (omega (arith, less))); earlier = (λ at most last. no-phase (completion_slot geometry.mediator lane at)) }
+-- and so have the slots of a clear ring
+slot-clear : (s : SetUp) (host : ℕ → ℕ) → AreRingsClear s host → (lane at : ℕ) → lane < s.lanes → at < ring_size
+    → phase_at s.geometry host lane at ≡ bit false
+slot-clear s host clear lane at there within =
+    let slot = completion_slot s.geometry.mediator lane at in
+    ap phase_of
+    (bytes_from-agree host (λ _. 0) slot cqe_size (λ i below.
+      let same : completion_slot s.geometry.mediator lane 0 + (cqe_size * at + i) ≡ slot + i = omega arith in
+      subst (λ (a : ℕ). host a ≡ 0) same (clear lane (cqe_size * at + i) there (omega (arith, within, below)))))
+    ∙ no-phase slot
 
-pub opening-phased : (geometry : Geometry) (lanes : ℕ) → ArePhased geometry (opening_world geometry lanes)
+lane-phased : (s : SetUp) (host : ℕ → ℕ) → AreRingsClear s host → (lane : ℕ) → lane < s.lanes
+    → IsPhased s.geometry host lane opening_lane.head opening_lane.phase opening_device_lane.posted opening_device_lane.phase
+lane-phased s host clear lane there =
+    record { wants = refl; written = (λ at less. absurd (omega (arith, less))); earlier = (λ at most last. slot-clear s host clear lane at there last) }
+
+pub opening-phased : (s : SetUp) (host : ℕ → ℕ) (disk : ℕ → ℕ → ℕ) → AreRingsClear s host
+    → ArePhased s.geometry (opening_world host disk s.geometry s.lanes)
 unfolding opening_world
-opening-phased geometry lanes lane l d at there =
-    subst (λ x. IsPhased geometry (λ _. 0) lane l.head l.phase x.posted x.phase) (slice_get-replicate lanes lane opening_device_lane d there)
-    (subst (λ x. IsPhased geometry (λ _. 0) lane x.head x.phase opening_device_lane.posted opening_device_lane.phase) (slice_get-replicate lanes lane opening_lane l at)
-    (lane-phased geometry lane))
+opening-phased s host disk clear lane l d at there =
+    let below : lane < s.lanes =
+    subst (λ n. lane < n) (length-replicate s.lanes opening_lane) (slice_get-below (replicate s.lanes opening_lane) lane l at) in
+    subst (λ x. IsPhased s.geometry host lane l.head l.phase x.posted x.phase) (slice_get-replicate s.lanes lane opening_device_lane d there)
+    (subst (λ x. IsPhased s.geometry host lane x.head x.phase opening_device_lane.posted opening_device_lane.phase) (slice_get-replicate s.lanes lane opening_lane l at)
+    (lane-phased s host clear lane below))
+
+-- zeros are clear
+pub blank-clear : (s : SetUp) → AreRingsClear s (λ _. 0)
+blank-clear s lane at there within = refl

@@ -5,8 +5,7 @@ ghost use Rattle.nv_mem.specs.GuestMap.{IsSound};
 ghost use Rattle.nv_world_model.specs.Geometry.{Geometry, Guest};
 ghost use Rattle.nv_world_model.specs.SetUp.{SetUp, host_refusal_of};
 ghost use Rattle.nv_world_model.specs.Step.{reaped, replay, step};
-ghost use Rattle.nv_world_model.specs.World.{World};
-ghost use Rattle.nv_world_model.specs.SetUp.{world_at_start};
+ghost use Rattle.nv_world_model.specs.World.{World, opening_world};
 ghost use Rattle.nv_world_model.specs.declared.event.Event.{Event};
 ghost use Rattle.nv_laws_sound.specs.Consistent.{IsConsistent};
 ghost use Rattle.nv_laws_sound.specs.Kept.{IsKeptWorld};
@@ -24,9 +23,9 @@ pub fn each_event_keeps_a_world_consistent()
 pub fn worlds_stay_consistent()
     ensures events { (host_bytes : ℕ) (geometry : Geometry) (events : List Event) (w : World) →
         IsLaidOut host_bytes (length w.lanes) geometry → IsConsistent geometry w → IsConsistent geometry (replay geometry events w) }
-    ensures from_start { (s : SetUp) (events : List Event) → host_refusal_of s ≡ None →
+    ensures from_start { (s : SetUp) (host : ℕ → ℕ) (disk : ℕ → ℕ → ℕ) (events : List Event) → host_refusal_of s ≡ None →
         ((number : ℕ) (guest : Guest) → slice_get s.geometry.guests number ≡ Some guest → IsSound guest.memory_map) →
-        IsConsistent s.geometry (replay s.geometry events (world_at_start s)) }
+        IsConsistent s.geometry (replay s.geometry events (opening_world host disk s.geometry s.lanes)) }
 {}
 
 /// What the mediator's side keeps, it keeps by itself: each event of a guest or of the mediator leads from a world in which it holds to another, whatever

@@ -4,7 +4,7 @@ ghost use Rattle.std.specs.Prelude.{◌≡◌, ℕ, Some, None, slice_get};
 ghost use Rattle.nv_mem.specs.GuestMap.{IsSound};
 ghost use Rattle.nv_world_model.specs.Geometry.{Guest};
 ghost use Rattle.nv_world_model.specs.SetUp.{SetUp, host_refusal_of, refusal_of};
-ghost use Rattle.nv_world_model.specs.SetUp.{world_at_start};
+ghost use Rattle.nv_world_model.specs.World.{opening_world};
 ghost use Rattle.nv_laws_sound.specs.Consistent.{IsConsistent};
 ghost use Rattle.nv_laws_sound.specs.LaidOut.{IsLaidOut};
 
@@ -20,7 +20,7 @@ pub fn a_scripts_set_up_is_a_hosts()
     ensures { (s : SetUp) → refusal_of s ≡ None → host_refusal_of s ≡ None }
 {}
 
-/// The world of a set-up is consistent at the start.
+/// The world of a set-up is consistent at the start, whatever memory and disk have.
 pub fn worlds_begin_consistent()
-    ensures { (s : SetUp) → IsConsistent s.geometry (world_at_start s) }
+    ensures { (s : SetUp) (host : ℕ → ℕ) (disk : ℕ → ℕ → ℕ) → IsConsistent s.geometry (opening_world host disk s.geometry s.lanes) }
 {}

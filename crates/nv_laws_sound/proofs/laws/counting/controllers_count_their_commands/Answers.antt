@@ -1,7 +1,6 @@
 use Rattle.std.proofs.Common.{sym, subst}
 use Rattle.std.proofs.lemmas.List.{length-replicate}
-use Rattle.nv_world_model.specs.World.{opening_lane, opening_world}
-use Rattle.nv_world_model.specs.SetUp.{world_at_start}
+use Rattle.nv_world_model.specs.World.{World, opening_lane, opening_world}
 use Rattle.nv_laws_sound.specs.LaidOut.{IsLaidOut}
 use Rattle.nv_laws_sound.proofs.CountedSteps.{step-counted}
 use Rattle.nv_laws_sound.proofs.CountedRuns.{opening-counted, replay-counted}
@@ -10,7 +9,7 @@ use Rattle.nv_laws_sound.proofs.Openings.{opening-consistent}
 use Rattle.nv_laws_sound.proofs.laws.counting.controllers_count_their_commands.Goals as goal
 
 pub returns-clause-start : goal.returns-clause-start
-returns-clause-start c = λ s. opening-counted s.geometry s.lanes
+returns-clause-start c = λ s host disk. opening-counted host disk s.geometry s.lanes
 
 pub returns-clause-step : goal.returns-clause-step
 returns-clause-step c = step-counted
@@ -20,7 +19,8 @@ returns-clause-events c = replay-counted
 
 pub returns-clause-from_start : goal.returns-clause-from_start
 unfolding opening_world
-returns-clause-from_start c = λ s events none sound.
-    replay-counted s.host_bytes s.geometry events (world_at_start s)
+returns-clause-from_start c = λ s host disk events none sound.
+    let w : World = opening_world host disk s.geometry s.lanes in
+    replay-counted s.host_bytes s.geometry events w
     (subst (λ n. IsLaidOut s.host_bytes n s.geometry) (sym (length-replicate s.lanes opening_lane)) (host-laid-out s none sound))
-    (opening-consistent s.geometry s.lanes) (opening-counted s.geometry s.lanes)
+    (opening-consistent host disk s.geometry s.lanes) (opening-counted host disk s.geometry s.lanes)

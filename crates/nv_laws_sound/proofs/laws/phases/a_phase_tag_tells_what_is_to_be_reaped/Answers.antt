@@ -1,8 +1,7 @@
 use Rattle.std.proofs.Common.{sym, subst}
 use Rattle.std.proofs.lemmas.List.{length-replicate}
-use Rattle.nv_world_model.specs.SetUp.{world_at_start}
 use Rattle.nv_world_model.specs.Step.{replay}
-use Rattle.nv_world_model.specs.World.{opening_lane, opening_world}
+use Rattle.nv_world_model.specs.World.{World, opening_lane, opening_world}
 use Rattle.nv_laws_sound.specs.LaidOut.{IsLaidOut}
 use Rattle.nv_laws_sound.proofs.LaidOuts.{host-laid-out}
 use Rattle.nv_laws_sound.proofs.Openings.{opening-consistent}
@@ -13,9 +12,10 @@ use Rattle.nv_laws_sound.proofs.laws.phases.a_phase_tag_tells_what_is_to_be_reap
 
 pub returns : goal.returns
 unfolding opening_world
-returns c = λ s events lane l d none sound at there.
+returns c = λ s host disk events lane l d none clear sound at there.
+    let w : World = opening_world host disk s.geometry s.lanes in
     let laid = subst (λ n. IsLaidOut s.host_bytes n s.geometry) (sym (length-replicate s.lanes opening_lane)) (host-laid-out s none sound) in
-    let is = replay-consistent s.host_bytes s.geometry events (world_at_start s) laid (opening-consistent s.geometry s.lanes) in
-    let are = replay-phased s.host_bytes s.geometry events (world_at_start s) laid (opening-consistent s.geometry s.lanes) (opening-phased s.geometry s.lanes) in
-    slot-tells s.geometry (replay s.geometry events (world_at_start s)).host lane l.head l.phase d.posted d.phase
+    let is = replay-consistent s.host_bytes s.geometry events w laid (opening-consistent host disk s.geometry s.lanes) in
+    let are = replay-phased s.host_bytes s.geometry events w laid (opening-consistent host disk s.geometry s.lanes) (opening-phased s host disk clear) in
+    slot-tells s.geometry (replay s.geometry events w).host lane l.head l.phase d.posted d.phase
     (is.of_tags.lanes lane l d at there).positions.read (are lane l d at there)
