@@ -7,8 +7,8 @@ use Rattle.nv_world_model.specs.declared.logged.Logged.{Logged}
 use Rattle.nv_world_model.specs.Geometry.{Geometry, Guest}
 use Rattle.nv_world_model.specs.Headline.{Headline}
 use Rattle.nv_world_model.specs.Log.{IsReplay}
-use Rattle.nv_world_model.specs.SetUp.{SetUp, host_refusal_of, world_at_start}
-use Rattle.nv_world_model.specs.World.{World}
+use Rattle.nv_world_model.specs.SetUp.{SetUp, host_refusal_of}
+use Rattle.nv_world_model.specs.World.{World, opening_world}
 use Rattle.nv_laws.proofs.others.Containing.{contained-since}
 use Rattle.nv_laws.specs.Alike.{HasFittingStatus}
 use Rattle.nv_laws.specs.Following.{AreRestFollowed, EachEventIsFollowed}
@@ -38,13 +38,14 @@ pub all-followed : (host_bytes : ℕ) (geometry : Geometry) (number : ℕ) (gues
 all-followed host_bytes geometry number guest given =
     each-followed geometry host_bytes number guest given (rest-followed host_bytes geometry number guest given)
 
-pub promise-kept : (s : SetUp) (log : List Logged) (z : World) → host_refusal_of s ≡ None
+pub promise-kept : (s : SetUp) (host : ℕ → ℕ) (disk : ℕ → ℕ → ℕ) (log : List Logged) (z : World) → host_refusal_of s ≡ None
     → ((number : ℕ) (guest : Guest) → slice_get s.geometry.guests number ≡ Some guest → IsSound guest.memory_map)
-    → All (λ l. HasFittingStatus l.event) log → IsReplay s.geometry (world_at_start s) log z → Headline s log z
-promise-kept s log z none sound fits replayed =
+    → All (λ l. HasFittingStatus l.event) log
+    → (let w = opening_world host disk s.geometry s.lanes in IsReplay s.geometry w log z → Headline s.geometry w log z)
+promise-kept s host disk log z none sound fits replayed =
     record {
       replay = replayed;
       private = λ number guest given unfailed disciplined.
-          private-run s log z number guest none sound given (all-followed s.host_bytes s.geometry number guest given) unfailed disciplined replayed;
-      contained = contained-since s log none sound fits;
+          private-run s host disk log z number guest none sound given (all-followed s.host_bytes s.geometry number guest given) unfailed disciplined replayed;
+      contained = contained-since s host disk log none sound fits;
     }

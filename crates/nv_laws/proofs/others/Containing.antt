@@ -15,7 +15,6 @@ use Rattle.nv_world_model.specs.SetUp.{SetUp, host_refusal_of}
 use Rattle.nv_world_model.specs.Step.{step}
 use Rattle.nv_world_model.specs.View.{IsAlike, is_tag_of}
 use Rattle.nv_world_model.specs.World.{World, opening_lane, opening_world, tag_of}
-use Rattle.nv_world_model.specs.SetUp.{world_at_start}
 use Rattle.nv_world_model.proofs.Replies.{step-answers}
 use Rattle.nv_laws_sound.specs.Consistent.{IsConsistent}
 use Rattle.nv_laws_sound.specs.LaidOut.{IsLaidOut}
@@ -108,10 +107,10 @@ logs-contained host_bytes geometry (l ∷ log) w laid fine fits = (
       (All-tail (λ x. HasFittingStatus x.event) l log fits),
 )
 
-pub contained-since : (s : SetUp) (log : List Logged) → host_refusal_of s ≡ None
+pub contained-since : (s : SetUp) (host : ℕ → ℕ) (disk : ℕ → ℕ → ℕ) (log : List Logged) → host_refusal_of s ≡ None
     → ((number : ℕ) (guest : Guest) → slice_get s.geometry.guests number ≡ Some guest → IsSound guest.memory_map)
-    → All (λ l. HasFittingStatus l.event) log → AreContained s.geometry log (world_at_start s)
+    → All (λ l. HasFittingStatus l.event) log → AreContained s.geometry log (opening_world host disk s.geometry s.lanes)
 unfolding opening_world
-contained-since s log none sound fits =
-    logs-contained s.host_bytes s.geometry log (world_at_start s)
-    (subst (λ n. IsLaidOut s.host_bytes n s.geometry) (sym (length-replicate s.lanes opening_lane)) (host-laid-out s none sound)) (opening-consistent s.geometry s.lanes) fits
+contained-since s host disk log none sound fits =
+    logs-contained s.host_bytes s.geometry log (opening_world host disk s.geometry s.lanes)
+    (subst (λ n. IsLaidOut s.host_bytes n s.geometry) (sym (length-replicate s.lanes opening_lane)) (host-laid-out s none sound)) (opening-consistent host disk s.geometry s.lanes) fits

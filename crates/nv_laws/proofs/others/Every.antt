@@ -11,7 +11,6 @@ use Rattle.nv_world_model.specs.Geometry.{Geometry, Guest}
 use Rattle.nv_world_model.specs.SetUp.{SetUp, host_refusal_of}
 use Rattle.nv_world_model.specs.Step.{kept_block, replay, replied, step}
 use Rattle.nv_world_model.specs.World.{World, opening_lane, opening_world}
-use Rattle.nv_world_model.specs.SetUp.{world_at_start}
 use Rattle.nv_world_model.proofs.Replies.{step-answers}
 use Rattle.nv_laws_sound.specs.Consistent.{IsConsistent}
 use Rattle.nv_laws_sound.specs.LaidOut.{IsLaidOut}
@@ -49,16 +48,16 @@ module _ (host_bytes : ℕ) (geometry : Geometry) where
   each-leaves-others w e laid fine =
       leaves-others host_bytes geometry _ laid (owner e w) w (step geometry e w).world refl fine.of_tags (each-leaves w e laid fine)
 
-pub leaves-others-since : (s : SetUp) (events : List Event) (e : Event) → host_refusal_of s ≡ None
+pub leaves-others-since : (s : SetUp) (host : ℕ → ℕ) (disk : ℕ → ℕ → ℕ) (events : List Event) (e : Event) → host_refusal_of s ≡ None
     → ((number : ℕ) (guest : Guest) → slice_get s.geometry.guests number ≡ Some guest → IsSound guest.memory_map)
-    → LeavesOthers s.geometry (owner e (replay s.geometry events (world_at_start s))) (replay s.geometry events (world_at_start s))
-    (step s.geometry e (replay s.geometry events (world_at_start s))).world
+    → (let w = replay s.geometry events (opening_world host disk s.geometry s.lanes) in LeavesOthers s.geometry (owner e w) w (step s.geometry e w).world)
 unfolding opening_world
-leaves-others-since s events e none sound =
+leaves-others-since s host disk events e none sound =
+    let w : World = opening_world host disk s.geometry s.lanes in
     let laid = subst (λ n. IsLaidOut s.host_bytes n s.geometry) (sym (length-replicate s.lanes opening_lane)) (host-laid-out s none sound) in
-    each-leaves-others s.host_bytes s.geometry (replay s.geometry events (world_at_start s)) e
-    (subst (λ n. IsLaidOut s.host_bytes n s.geometry) (sym (replay-lanes s.host_bytes s.geometry events (world_at_start s))) laid)
-    (replay-consistent s.host_bytes s.geometry events (world_at_start s) laid (opening-consistent s.geometry s.lanes))
+    each-leaves-others s.host_bytes s.geometry (replay s.geometry events w) e
+    (subst (λ n. IsLaidOut s.host_bytes n s.geometry) (sym (replay-lanes s.host_bytes s.geometry events w)) laid)
+    (replay-consistent s.host_bytes s.geometry events w laid (opening-consistent host disk s.geometry s.lanes))
 
 -- ---- events of nobody
 

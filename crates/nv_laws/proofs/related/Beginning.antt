@@ -14,19 +14,19 @@ use Rattle.nv_model.specs.Dialogue.{asked}
 use Rattle.nv_model.specs.Footprint.{Destination, ListBytes, Named, Source, buffer_named, io_named, is_destination, named_as, names, verdict_named}
 use Rattle.nv_model.specs.Judge.{Go, Verdict, Work, is_read, judge}
 use Rattle.nv_model.specs.Limits.{block}
-use Rattle.nv_model.specs.Memory.{byte_at_host, image}
-use Rattle.nv_model.specs.Private.{Private, numbers_of, start, verdict_in}
+use Rattle.nv_model.specs.Memory.{image}
+use Rattle.nv_model.specs.Private.{Private, numbers_of, verdict_in}
 use Rattle.nv_world_model.specs.Agrees.{Agrees, is_awaited}
 use Rattle.nv_world_model.specs.Area.{bounce_page, tag_count}
 use Rattle.nv_world_model.specs.Device.{Held}
 use Rattle.nv_world_model.specs.Share.{Share}
 use Rattle.nv_world_model.specs.Geometry.{Geometry, Guest, regions_of, shape_of}
+use Rattle.nv_world_model.specs.Headline.{start_in}
 use Rattle.nv_world_model.specs.Plan.{Answer, Bounced, Direct, NoData, Plan}
 use Rattle.nv_world_model.specs.Seat.{Rest, completion_at, held_in, member_in, members, work_of}
 use Rattle.nv_world_model.specs.SetUp.{SetUp}
 use Rattle.nv_world_model.specs.View.{own_held, own_tag}
 use Rattle.nv_world_model.specs.World.{Ended, Flying, Free, Lane, Tag, Taken, World, opening_lane, opening_world, tag_in, tag_of}
-use Rattle.nv_world_model.specs.SetUp.{world_at_start}
 use Rattle.nv_laws_sound.proofs.Lists.{slice_get-below, slice_get-replicate, slice_get-there}
 use Rattle.nv_laws.proofs.others.ShownTags.{any-behind}
 use Rattle.nv_laws.proofs.related.Named.{any-drop, any-one, any-take, any_entry, place-passes, run-names, taken-among}
@@ -50,10 +50,10 @@ lane-free (Some l) tag each =
     subst (λ (x : Lane). (slice_get x.tags tag ≡ None) ⊎ (slice_get x.tags tag ≡ Some Free)) (each l refl)
     (tag-free (replicate tag_count Free) tag (λ t e. slice_get-replicate tag_count tag Free t e))
 
-opening-free : (geometry : Geometry) (lanes lane tag : ℕ)
-    → (tag_of (opening_world geometry lanes) lane tag ≡ None) ⊎ (tag_of (opening_world geometry lanes) lane tag ≡ Some Free)
+opening-free : (host : ℕ → ℕ) (disk : ℕ → ℕ → ℕ) (geometry : Geometry) (lanes lane tag : ℕ)
+    → (tag_of (opening_world host disk geometry lanes) lane tag ≡ None) ⊎ (tag_of (opening_world host disk geometry lanes) lane tag ≡ Some Free)
 unfolding opening_world
-opening-free geometry lanes lane tag =
+opening-free host disk geometry lanes lane tag =
     lane-free (slice_get (replicate lanes opening_lane) lane) tag (λ l e. slice_get-replicate lanes lane opening_lane l e)
 
 free-no_member : (o : Option Tag) (tag number : ℕ) (rests : List Rest) → (o ≡ None) ⊎ (o ≡ Some Free) → None ≡ member_in o tag number rests
@@ -67,11 +67,6 @@ free-related o number guest held status_at bounce host memory (inl none) =
 free-related o number guest held status_at bounce host memory (inr free) =
     subst (λ x. IsTagRelated (own_tag number x) guest held status_at bounce host memory) (sym free) tt
 
--- zeros have an image of zeros
-no-byte : (o : Option ℕ) → 0 ≡ byte_at_host (λ _. 0) o
-no-byte None = refl
-no-byte (Some at) = refl
-
 -- a row has a member at each of its places
 in-row : {X : Type 0} (n i : ℕ) (x : X) → i < n → slice_get (replicate n x) i ≡ Some x
 in-row n i x below =
@@ -79,19 +74,20 @@ in-row n i x below =
     let found = slice_get-there (replicate n x) i (subst (λ m. i < m) (sym sized) below) in
     found.1 ∙ ap (λ y. Some y) (sym (slice_get-replicate n i x found.0 found.1))
 
-pub opening-related : (s : SetUp) (number : ℕ) (guest : Guest) → slice_get s.geometry.guests number ≡ Some guest
-    → Related s.geometry number guest (world_at_start s) start
-unfolding opening_world start members image
-opening-related s number guest given =
+pub opening-related : (s : SetUp) (host : ℕ → ℕ) (disk : ℕ → ℕ → ℕ) (number : ℕ) (guest : Guest) → slice_get s.geometry.guests number ≡ Some guest
+    → (let w = opening_world host disk s.geometry s.lanes in Related s.geometry number guest w (start_in guest w))
+unfolding opening_world members
+opening-related s host disk number guest given =
+    let w : World = opening_world host disk s.geometry s.lanes in
     record {
       controller = in-row (length s.geometry.guests) number opening (slice_get-below s.geometry.guests number guest given);
       blocks = (λ lba offset below. refl);
       marks = (λ lba below. refl);
-      memory = (λ addr there shown. no-byte (host_of (regions_of guest) addr));
+      memory = (λ addr there shown. refl);
       bag = (λ name.
-          free-no_member (tag_of (world_at_start s) (name / tag_count) (name % tag_count)) (name % tag_count) number _
-          (opening-free s.geometry s.lanes (name / tag_count) (name % tag_count)));
-      tags = (λ lane tag. free-related (tag_of (world_at_start s) lane tag) number guest _ _ _ _ _ (opening-free s.geometry s.lanes lane tag));
+          free-no_member (tag_of w (name / tag_count) (name % tag_count)) (name % tag_count) number _
+          (opening-free host disk s.geometry s.lanes (name / tag_count) (name % tag_count)));
+      tags = (λ lane tag. free-related (tag_of w lane tag) number guest _ _ _ _ _ (opening-free host disk s.geometry s.lanes lane tag));
     }
 
 -- ---- what is hidden is awaited

@@ -5,7 +5,7 @@ use Rattle.nv_mem.specs.GuestMap.{IsSound}
 use Rattle.nv_model.proofs.Endings.{and-true}
 use Rattle.nv_model.specs.Controller.{Controller}
 use Rattle.nv_model.specs.Footprint.{completion_slots}
-use Rattle.nv_model.specs.Private.{Private, Seen, run_of, start}
+use Rattle.nv_model.specs.Private.{Private, Seen, run_of}
 use Rattle.nv_model.specs.declared.act.Act.{Act}
 use Rattle.nv_model.specs.declared.reply.Reply.{Reply}
 use Rattle.nv_world_model.specs.declared.event.Event.{Event}
@@ -13,13 +13,12 @@ use Rattle.nv_world_model.specs.declared.logged.Logged.{Logged}
 use Rattle.nv_world_model.specs.Contained.{owner}
 use Rattle.nv_world_model.specs.Disciplined.{commands_named, in_order, in_order_by, is_clear, is_disciplined, may_act}
 use Rattle.nv_world_model.specs.Geometry.{Geometry, Guest, shape_of}
-use Rattle.nv_world_model.specs.Headline.{IsPrivateRun, fails, is_failure, none_failed}
+use Rattle.nv_world_model.specs.Headline.{IsPrivateRun, fails, is_failure, none_failed, start_in}
 use Rattle.nv_world_model.specs.Log.{IsReplay, events_of}
 use Rattle.nv_world_model.specs.PrivateSteps.{act_of, private_steps, seen_by, steps_of, with_act}
 use Rattle.nv_world_model.specs.SetUp.{SetUp, host_refusal_of}
 use Rattle.nv_world_model.specs.Step.{is_done, replay, replies, step}
 use Rattle.nv_world_model.specs.World.{World, is_that, opening_lane, opening_world}
-use Rattle.nv_world_model.specs.SetUp.{world_at_start}
 use Rattle.nv_laws_sound.specs.Consistent.{IsConsistent}
 use Rattle.nv_laws_sound.specs.LaidOut.{IsLaidOut}
 use Rattle.nv_laws_sound.proofs.CountedSteps.{step-counted}
@@ -44,15 +43,15 @@ step-reached host_bytes geometry e w is =
       counted = step-counted host_bytes geometry e w is.laid is.consistent is.counted;
     }
 
-pub start-reached : (s : SetUp) → host_refusal_of s ≡ None
+pub start-reached : (s : SetUp) (host : ℕ → ℕ) (disk : ℕ → ℕ → ℕ) → host_refusal_of s ≡ None
     → ((number : ℕ) (guest : Guest) → slice_get s.geometry.guests number ≡ Some guest → IsSound guest.memory_map)
-    → IsReached s.host_bytes s.geometry (world_at_start s)
+    → IsReached s.host_bytes s.geometry (opening_world host disk s.geometry s.lanes)
 unfolding opening_world
-start-reached s none sound =
+start-reached s host disk none sound =
     record {
       laid = subst (λ n. IsLaidOut s.host_bytes n s.geometry) (sym (length-replicate s.lanes opening_lane)) (host-laid-out s none sound);
-      consistent = opening-consistent s.geometry s.lanes;
-      counted = opening-counted s.geometry s.lanes;
+      consistent = opening-consistent host disk s.geometry s.lanes;
+      counted = opening-counted host disk s.geometry s.lanes;
     }
 
 -- ---- discipline
@@ -138,19 +137,21 @@ module _ (geometry : Geometry) (host_bytes number : ℕ) (guest : Guest) (given 
       (record { end = replayed.end; told = ap rest_replies replayed.told }) one.related)
 
 -- from a set-up on
-pub private-run : (s : SetUp) (log : List Logged) (z : World) (number : ℕ) (guest : Guest) → host_refusal_of s ≡ None
+pub private-run : (s : SetUp) (host : ℕ → ℕ) (disk : ℕ → ℕ → ℕ) (log : List Logged) (z : World) (number : ℕ) (guest : Guest) → host_refusal_of s ≡ None
     → ((other : ℕ) (given : Guest) → slice_get s.geometry.guests other ≡ Some given → IsSound given.memory_map)
     → slice_get s.geometry.guests number ≡ Some guest → EachEventIsFollowed s.geometry s.host_bytes number guest
-    → none_failed s.geometry number log (world_at_start s) ≡ true → is_disciplined s.geometry number guest log (world_at_start s) ≡ true
-    → IsReplay s.geometry (world_at_start s) log z → IsPrivateRun s.geometry number guest log (world_at_start s) z
-private-run s log z number guest none sound given each unfailed disciplined replayed =
-    let reached = start-reached s none sound in
-    let all = log-followed s.geometry s.host_bytes number guest given each log (world_at_start s) z start reached unfailed disciplined replayed (opening-related s number guest given) in
+    → (let w = opening_world host disk s.geometry s.lanes in
+    none_failed s.geometry number log w ≡ true → is_disciplined s.geometry number guest log w ≡ true
+    → IsReplay s.geometry w log z → IsPrivateRun s.geometry number guest log w z)
+private-run s host disk log z number guest none sound given each unfailed disciplined replayed =
+    let w : World = opening_world host disk s.geometry s.lanes in
+    let reached = start-reached s host disk none sound in
+    let all = log-followed s.geometry s.host_bytes number guest given each log w z (start_in guest w) reached unfailed disciplined replayed (opening-related s host disk number guest given) in
     record {
       run = all.run;
       runs = all.runs;
       seen = all.seen;
       agrees = related-agrees s.geometry number guest z
-          (subst (IsConsistent s.geometry) replayed.end (replay-consistent s.host_bytes s.geometry (events_of log) (world_at_start s) reached.laid reached.consistent))
+          (subst (IsConsistent s.geometry) replayed.end (replay-consistent s.host_bytes s.geometry (events_of log) w reached.laid reached.consistent))
           all.run.state all.related;
     }

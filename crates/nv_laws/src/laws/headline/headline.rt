@@ -8,8 +8,8 @@ ghost use Rattle.nv_world_model.specs.declared.logged.Logged.{Logged};
 ghost use Rattle.nv_world_model.specs.Geometry.{Geometry, Guest};
 ghost use Rattle.nv_world_model.specs.Headline.{Headline};
 ghost use Rattle.nv_world_model.specs.Log.{IsReplay};
-ghost use Rattle.nv_world_model.specs.SetUp.{SetUp, host_refusal_of, world_at_start};
-ghost use Rattle.nv_world_model.specs.World.{World};
+ghost use Rattle.nv_world_model.specs.SetUp.{SetUp, host_refusal_of};
+ghost use Rattle.nv_world_model.specs.World.{World, opening_world};
 
 /// The private controller of a disciplined guest goes along with each event, wherever events have led to, where none of the guest's commands fails.
 pub fn each_event_is_followed()
@@ -17,10 +17,11 @@ pub fn each_event_is_followed()
         EachEventIsFollowed geometry host_bytes number guest }
 {}
 
-/// A log of events that lead from an accepted set-up to a world keeps the promise, where each status with which the physical controller fails a
-/// command fits into a completion.
+/// A log of events that lead from an accepted set-up, whatever memory and disk have at the start, to a world keeps the promise, where each status with
+/// which the physical controller fails a command fits into a completion.
 pub fn logs_keep_the_promise()
-    ensures { (s : SetUp) (log : List Logged) (z : World) → host_refusal_of s ≡ None →
+    ensures { (s : SetUp) (host : ℕ → ℕ) (disk : ℕ → ℕ → ℕ) (log : List Logged) (z : World) → host_refusal_of s ≡ None →
         ((number : ℕ) (guest : Guest) → slice_get s.geometry.guests number ≡ Some guest → IsSound guest.memory_map) →
-        All (λ l. HasFittingStatus l.event) log → IsReplay s.geometry (world_at_start s) log z → Headline s log z }
+        All (λ l. HasFittingStatus l.event) log →
+        let w = opening_world host disk s.geometry s.lanes in IsReplay s.geometry w log z → Headline s.geometry w log z }
 {}

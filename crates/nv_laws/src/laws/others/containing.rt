@@ -8,8 +8,7 @@ ghost use Rattle.nv_world_model.specs.Contained.{Contained};
 ghost use Rattle.nv_world_model.specs.Geometry.{Geometry, Guest};
 ghost use Rattle.nv_world_model.specs.Headline.{AreContained};
 ghost use Rattle.nv_world_model.specs.SetUp.{SetUp, host_refusal_of};
-ghost use Rattle.nv_world_model.specs.World.{World};
-ghost use Rattle.nv_world_model.specs.SetUp.{world_at_start};
+ghost use Rattle.nv_world_model.specs.World.{World, opening_world};
 ghost use Rattle.nv_laws_sound.specs.Consistent.{IsConsistent};
 ghost use Rattle.nv_laws_sound.specs.LaidOut.{IsLaidOut};
 ghost use Rattle.nv_laws.specs.Alike.{HasFittingStatus};
@@ -21,7 +20,7 @@ pub fn every_event_is_contained()
         HasFittingStatus e → Contained geometry e w }
     ensures along { (host_bytes : ℕ) (geometry : Geometry) (log : List Logged) (w : World) → IsLaidOut host_bytes (length w.lanes) geometry →
         IsConsistent geometry w → All (λ l. HasFittingStatus l.event) log → AreContained geometry log w }
-    ensures from_start { (s : SetUp) (log : List Logged) → host_refusal_of s ≡ None →
+    ensures from_start { (s : SetUp) (host : ℕ → ℕ) (disk : ℕ → ℕ → ℕ) (log : List Logged) → host_refusal_of s ≡ None →
         ((number : ℕ) (guest : Guest) → slice_get s.geometry.guests number ≡ Some guest → IsSound guest.memory_map) →
-        All (λ l. HasFittingStatus l.event) log → AreContained s.geometry log (world_at_start s) }
+        All (λ l. HasFittingStatus l.event) log → AreContained s.geometry log (opening_world host disk s.geometry s.lanes) }
 {}

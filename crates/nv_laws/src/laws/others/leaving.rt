@@ -8,8 +8,7 @@ ghost use Rattle.nv_world_model.specs.Contained.{Contained, LeavesOthers, Raises
 ghost use Rattle.nv_world_model.specs.Geometry.{Geometry, Guest};
 ghost use Rattle.nv_world_model.specs.SetUp.{SetUp, host_refusal_of};
 ghost use Rattle.nv_world_model.specs.Step.{replay, step};
-ghost use Rattle.nv_world_model.specs.World.{World};
-ghost use Rattle.nv_world_model.specs.SetUp.{world_at_start};
+ghost use Rattle.nv_world_model.specs.World.{World, opening_world};
 ghost use Rattle.nv_laws_sound.specs.Consistent.{IsConsistent};
 ghost use Rattle.nv_laws_sound.specs.LaidOut.{IsLaidOut};
 
@@ -19,9 +18,9 @@ ghost use Rattle.nv_laws_sound.specs.LaidOut.{IsLaidOut};
 pub fn events_leave_others()
     ensures each { (host_bytes : ℕ) (geometry : Geometry) (w : World) (e : Event) → IsLaidOut host_bytes (length w.lanes) geometry → IsConsistent geometry w →
         LeavesOthers geometry (owner e w) w (step geometry e w).world }
-    ensures from_start { (s : SetUp) (events : List Event) (e : Event) → host_refusal_of s ≡ None →
+    ensures from_start { (s : SetUp) (host : ℕ → ℕ) (disk : ℕ → ℕ → ℕ) (events : List Event) (e : Event) → host_refusal_of s ≡ None →
         ((number : ℕ) (guest : Guest) → slice_get s.geometry.guests number ≡ Some guest → IsSound guest.memory_map) →
-        let w = replay s.geometry events (world_at_start s) in
+        let w = replay s.geometry events (opening_world host disk s.geometry s.lanes) in
         LeavesOthers s.geometry (owner e w) w (step s.geometry e w).world }
 {}
 
