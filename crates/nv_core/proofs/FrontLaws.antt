@@ -1,8 +1,7 @@
 -- What a call of a front comes to in the worlds that have its side, and what its side keeps.
-use Rattle.std.proofs.Common.{◌≡◌, ℕ, List, length, replicate, slice_get, Some, refl, sym, ap, ◌∙◌, subst}
+use Rattle.std.proofs.Common.{◌≡◌, ℕ, List, [], length, slice_get, Some, refl, sym, ap, ◌∙◌, subst}
 use Rattle.nv_core.proofs.Delegated.{tails-opening, tails-rung}
 use Rattle.nv_core.proofs.KeptStates.{kept-consistent, kept-world, length-tails, tail-of}
-use Rattle.nv_core.proofs.Openings.{bytes-zero}
 use Rattle.nv_core.proofs.Sides.{own-side, own-world}
 use Rattle.nv_core.specs.Front.{IsBeside, IsReaped, IsSideOf, IsSideStep, IsStepBeside, Side, opening_side, rung_with, tails_of, with_side}
 use Rattle.nv_core.specs.Kept.{AreKept, IsKept, IsLent}
@@ -119,15 +118,17 @@ controller-beside geometry e his side before after w on host =
     record { host = host; lanes = alone.lanes ∙ on.lanes; controllers = alone.controllers ∙ on.controllers; tails = alone.tails ∙ on.tails }
 
 -- the start
-pub start-side : (geometry : Geometry) (host_bytes lanes : ℕ) → IsSideOf (opening_side geometry lanes) (replicate host_bytes 0) (opening_world geometry lanes)
+pub start-side : (memory : List ℕ) (disk : ℕ → ℕ → ℕ) (geometry : Geometry) (lanes : ℕ)
+    → IsSideOf (opening_side geometry lanes) memory (opening_world (byte_in memory) disk geometry lanes)
 unfolding opening_world
-start-side geometry host_bytes lanes = record { host = sym (bytes-zero host_bytes); lanes = refl; controllers = refl; tails = tails-opening lanes }
+start-side memory disk geometry lanes = record { host = refl; lanes = refl; controllers = refl; tails = tails-opening lanes }
 
 pub start-kept : (geometry : Geometry) (lanes : ℕ) → IsKept geometry (opening_side geometry lanes)
 start-kept geometry lanes =
-    let is = start-side geometry 0 lanes in
-    let w : World = opening_world geometry lanes in
+    let blank : ℕ → ℕ → ℕ = (λ _ _. 0) in
+    let is = start-side [] blank geometry lanes in
+    let w : World = opening_world (byte_in []) blank geometry lanes in
     subst (λ (ls : List Lane). AreKept geometry ls (opening_side geometry lanes).tails (opening_side geometry lanes).controllers) is.lanes
     (subst (λ (ts : List ℕ). AreKept geometry w.lanes ts (opening_side geometry lanes).controllers) is.tails
     (subst (λ (cs : List Controller). AreKept geometry w.lanes (tails_of w.device) cs) is.controllers
-    (kept-world geometry w (kept-consistent geometry w (opening-consistent geometry lanes)))))
+    (kept-world geometry w (kept-consistent geometry w (opening-consistent (byte_in []) blank geometry lanes)))))

@@ -3,7 +3,7 @@
 //! A front knows neither where a part is that it has handed on nor what the physical controller does. So its side is that of many worlds, which differ in
 //! these places alone.
 
-ghost use Rattle.std.specs.Prelude.{◌≡◌, ℕ, List, Some, length, replicate, slice_get};
+ghost use Rattle.std.specs.Prelude.{◌≡◌, ℕ, List, Some, length, slice_get};
 ghost use Rattle.nv_core.specs.Front.{IsBeside, IsReaped, IsSideOf, IsSideStep, IsStepBeside, Side, opening_side};
 ghost use Rattle.nv_core.specs.Kept.{IsKept, IsLent};
 ghost use Rattle.nv_laws_sound.specs.Mediators.{IsMediators};
@@ -15,10 +15,10 @@ ghost use Rattle.nv_world_model.specs.Step.{step};
 ghost use Rattle.nv_world_model.specs.World.{Lane, World, opening_world};
 ghost use Rattle.nv_world_model.specs.declared.event.Event.{Event};
 
-/// The side of a new front is that of the world at the start, in a memory of zeros, and keeps what a side keeps.
+/// The side of a new front is that of the world at the start, whatever memory and disk have, and keeps what a side keeps.
 pub fn a_front_begins_at_the_start()
-    ensures world { (geometry : Geometry) (host_bytes lanes : ℕ) →
-        IsSideOf (opening_side geometry lanes) (replicate host_bytes 0) (opening_world geometry lanes) }
+    ensures world { (memory : List ℕ) (disk : ℕ → ℕ → ℕ) (geometry : Geometry) (lanes : ℕ) →
+        IsSideOf (opening_side geometry lanes) memory (opening_world (byte_in memory) disk geometry lanes) }
     ensures kept { (geometry : Geometry) (lanes : ℕ) → IsKept geometry (opening_side geometry lanes) }
 {}
 

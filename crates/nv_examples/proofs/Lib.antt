@@ -1,5 +1,6 @@
 pub mod Refuting
 pub mod Own
+pub mod Blank
 pub mod Changes
 pub mod Laid
 pub mod StoryHosts

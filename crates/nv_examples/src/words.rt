@@ -57,7 +57,7 @@ pub fn in_its_world()
 /// The promise says where a log leads: one of no events leads to the world at the start, and not to one with other bytes.
 #[tactic(none)]
 pub fn where_a_log_leads()
-    ensures { Headline (record { host_bytes = 0x1000000; lanes = 1; geometry = set_up }) [] (with_host (λ _. 7) at_start) → ⊥ }
+    ensures { Headline set_up at_start [] (with_host (λ _. 7) at_start) → ⊥ }
 {}
 
 /// Steps of private controllers, and what a guest that is not the first has seen.

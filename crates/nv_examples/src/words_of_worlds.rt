@@ -1,6 +1,6 @@
 //! Terms of the promise and of the world, each distinguished from a similar one that the other rows let pass.
 
-ghost use Rattle.std.specs.Prelude.{◌≡◌, [], ◌∷◌, ◌++◌, replicate, Some, None, false, true, is_some, slice_get};
+ghost use Rattle.std.specs.Prelude.{◌≡◌, ◌+◌, ◌*◌, [], ◌∷◌, ◌++◌, replicate, Some, None, false, true, is_some, slice_get};
 ghost use Rattle.nv_entry.specs.StatusCode.{done_with};
 ghost use Rattle.nv_entry.specs.declared.status_code.StatusCode.TheVariants as code;
 ghost use Rattle.nv_mem.specs.declared.piece.Piece.TheVariants as piece;
@@ -9,7 +9,7 @@ ghost use Rattle.nv_model.specs.Judge.{MoveBlock};
 ghost use Rattle.nv_model.specs.Private.{Ended};
 ghost use Rattle.nv_model.specs.Rows.{first_example};
 ghost use Rattle.nv_world_model.specs.Contained.{given_to};
-ghost use Rattle.nv_world_model.specs.Headline.{Headline, none_failed};
+ghost use Rattle.nv_world_model.specs.Headline.{Headline, none_failed, start_in};
 ghost use Rattle.nv_examples.specs.Twice.{behind_it, second_stores, twice};
 ghost use Rattle.nv_world_model.specs.Rows.{behind, host_number, in_device, one_command, set_up, two_commands, whole};
 ghost use Rattle.nv_world_model.specs.RowsShown.{first_guest, second_guest, span};
@@ -17,7 +17,9 @@ ghost use Rattle.nv_world_model.specs.RowsSteps.{logged, member_told};
 ghost use Rattle.nv_world_model.specs.RowsWorlds.{at_start, two_lanes};
 ghost use Rattle.nv_world_model.specs.Seat.{members};
 ghost use Rattle.nv_world_model.specs.Share.{cut_piece, cut_pieces, unit_behind};
+ghost use Rattle.nv_world_model.specs.SetUp.{world_at_start};
 ghost use Rattle.nv_world_model.specs.View.{in_extents, in_image, lies_in};
+ghost use Rattle.nv_world_model.specs.World.{opening_world};
 ghost use Rattle.nv_world_model.specs.declared.event.Event.TheVariants as event;
 
 /// Failures.
@@ -48,6 +50,9 @@ pub fn bags()
 pub fn starts()
     ensures no_mark { at_start.kept 5 ≡ false }
     ensures zero_blocks { at_start.disk 5 7 ≡ 0 }
+    // A private controller begins with what the guest's own memory and blocks have, wherever they lie.
+    ensures own_bytes { (start_in first_guest (opening_world (λ at. at) (λ _ _. 0) set_up 1)).memory 0x3000 ≡ 0x103000 }
+    ensures own_blocks { (start_in second_guest (opening_world (λ _. 0) (λ at offset. 512 * at + offset) set_up 1)).disk 5 7 ≡ 512 * 2005 + 7 }
 {}
 
 /// What is a guest's.
@@ -74,6 +79,6 @@ pub fn cut_off()
 /// first's private run; and it is not contained.
 #[tactic(none)]
 pub fn promised()
-    ensures by_its_run { Headline twice second_stores behind_it → ⊥ }
-    ensures by_containment { Headline twice second_stores behind_it → ⊥ }
+    ensures by_its_run { Headline twice.geometry (world_at_start twice) second_stores behind_it → ⊥ }
+    ensures by_containment { Headline twice.geometry (world_at_start twice) second_stores behind_it → ⊥ }
 {}

@@ -6,7 +6,7 @@ use Rattle.nv_device.specs.Physical.{FitsLimits}
 use Rattle.nv_laws_sound.proofs.CountedRuns.{opening-counted}
 use Rattle.nv_laws_sound.proofs.LaidOuts.{accepted, all-one, host-laid-out, limit-fits, script-accepted, sizes-of}
 use Rattle.nv_laws_sound.proofs.Openings.{opening-consistent}
-use Rattle.nv_laws_sound.proofs.phases.Steps.{opening-phased}
+use Rattle.nv_laws_sound.proofs.phases.Steps.{blank-clear, opening-phased}
 use Rattle.nv_laws_sound.specs.Consistent.{IsConsistent}
 use Rattle.nv_laws_sound.specs.Counted.{IsCounted}
 use Rattle.nv_laws_sound.specs.LaidOut.{IsLaidOut}
@@ -67,10 +67,10 @@ module _ (s : SetUp) (core : State) (opening : IsOpening s.geometry s.host_bytes
       laid_out =
           subst (λ (n : ℕ). IsLaidOut n (length core.lanes) s.geometry) (sym opening.host)
           (subst (λ (n : ℕ). IsLaidOut s.host_bytes n s.geometry) (sym lanes-are) (host-laid-out s (script-accepted s none) sound));
-      consistent = subst (IsConsistent s.geometry) (sym opening.world) (opening-consistent s.geometry s.lanes);
-      phased = subst (ArePhased s.geometry) (sym opening.world) (opening-phased s.geometry s.lanes);
+      consistent = subst (IsConsistent s.geometry) (sym opening.world) (opening-consistent (λ _. 0) (λ _ _. 0) s.geometry s.lanes);
+      phased = subst (ArePhased s.geometry) (sym opening.world) (opening-phased s (λ _. 0) (λ _ _. 0) (blank-clear s));
     };
-    counted = subst (IsCounted s.geometry) (sym opening.world) (opening-counted s.geometry s.lanes);
+    counted = subst (IsCounted s.geometry) (sym opening.world) (opening-counted (λ _. 0) (λ _ _. 0) s.geometry s.lanes);
     led = record { log = []; leads = log-none s (record { geometry = s.geometry; state = core }) (record { setup = setup-is; world = opening.world }) };
   }
 

@@ -122,4 +122,4 @@ module _ (h : Hosted) (new : State) (e : Event) (Current : Type 0) (hosted : IsH
 -- every log that leads to it keeps the whole promise
 pub hosted-promised : (h : Hosted) → IsHosted h → IsPromised h
 hosted-promised h is log leads =
-    promise-kept (setup_of h) log (world_of h.state) (script-accepted (setup_of h) is.accepted) (λ number guest at. (is.of.laid_out.given number guest at).sound) leads.fitting leads.replayed
+    promise-kept (setup_of h) (λ _. 0) (λ _ _. 0) log (world_of h.state) (script-accepted (setup_of h) is.accepted) (λ number guest at. (is.of.laid_out.given number guest at).sound) leads.fitting leads.replayed

@@ -22,7 +22,7 @@ set_up = record { mediator = 0x30000; disk_blocks = 16; guests = first ∷ neigh
 
 -- the world that it makes
 abbrev pub opened : World
-opened = opening_world set_up 1
+opened = opening_world (λ _. 0) (λ _ _. 0) set_up 1
 
 -- ---- commands
 

@@ -33,6 +33,7 @@ use Rattle.nv_examples.specs.Logs.{logged}
 use Rattle.nv_world_model.specs.Geometry.{shape_of}
 use Rattle.nv_examples.specs.Breaches.{destination_in_destination, holds_along, last_byte}
 use Rattle.nv_examples.specs.Guests.{first, opened, set_up}
+use Rattle.nv_examples.proofs.Blank.{own-run}
 use Rattle.nv_examples.proofs.Refuting.{other-byte}
 use Rattle.nv_examples.proofs.breaches.destination_in_destination.Goals as goal
 
@@ -76,4 +77,4 @@ unfolding number_at dword qword bits bytes_of_dwords completion everywhere addre
     none_failed is_disciplined taken_entries private_steps seen_by logged holds_along last_byte
 returns-clause-it_has_no_such_run c f =
     other-byte first 0x0a01 (run_of (shape_of first) (private_steps set_up.geometry 0 first (logged set_up.geometry destination_in_destination opened) opened) start)
-    f.run (replay set_up.geometry destination_in_destination opened) 7 0 refl refl refl refl (eqb-false 7 0 refl) f.runs f.agrees
+    f.run (replay set_up.geometry destination_in_destination opened) 7 0 refl refl refl refl (eqb-false 7 0 refl) (own-run destination_in_destination f) f.agrees

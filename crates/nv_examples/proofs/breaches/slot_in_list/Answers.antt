@@ -32,6 +32,7 @@ use Rattle.nv_examples.specs.Logs.{logged}
 use Rattle.nv_world_model.specs.Geometry.{shape_of}
 use Rattle.nv_examples.specs.Breaches.{slot_in_list, holds_along, last_byte}
 use Rattle.nv_examples.specs.Guests.{first, opened, set_up}
+use Rattle.nv_examples.proofs.Blank.{own-run}
 use Rattle.nv_examples.proofs.Refuting.{no-run}
 use Rattle.nv_examples.proofs.breaches.slot_in_list.Goals as goal
 
@@ -83,4 +84,4 @@ unfolding number_at dword qword bits bytes_of_dwords completion everywhere addre
     with_tags group claimed units_behind rest_at rests_of members seat put_back acted_in administered_in taken_to listed submitted handed_on device_took
     device_moved device_posted kept_block reaped scattered_to delivered_all posted_to ran_out_of statuses_of step replay replies opening_world refusal_of
     none_failed is_disciplined taken_entries private_steps seen_by logged holds_along last_byte
-returns-clause-it_has_no_such_run c f = no-run (run_of (shape_of first) (private_steps set_up.geometry 0 first (logged set_up.geometry slot_in_list opened) opened) start) f.run refl f.runs
+returns-clause-it_has_no_such_run c f = no-run (run_of (shape_of first) (private_steps set_up.geometry 0 first (logged set_up.geometry slot_in_list opened) opened) start) f.run refl (own-run slot_in_list f)

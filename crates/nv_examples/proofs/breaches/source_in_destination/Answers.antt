@@ -34,6 +34,7 @@ use Rattle.nv_examples.specs.Logs.{logged}
 use Rattle.nv_world_model.specs.Geometry.{shape_of}
 use Rattle.nv_examples.specs.Breaches.{source_in_destination, holds_along, last_byte}
 use Rattle.nv_examples.specs.Guests.{first, opened, set_up}
+use Rattle.nv_examples.proofs.Blank.{own-run}
 use Rattle.nv_examples.proofs.Refuting.{other-block}
 use Rattle.nv_examples.proofs.breaches.source_in_destination.Goals as goal
 
@@ -77,4 +78,4 @@ unfolding number_at dword qword bits bytes_of_dwords completion everywhere addre
     none_failed is_disciplined taken_entries private_steps seen_by logged holds_along last_byte
 returns-clause-it_has_no_such_run c f =
     other-block first 1 0 (run_of (shape_of first) (private_steps set_up.geometry 0 first (logged set_up.geometry source_in_destination opened) opened) start)
-    f.run (replay set_up.geometry source_in_destination opened) 0 7 (ltb-true 1 2 refl) refl refl (eqb-false 0 7 refl) f.runs f.agrees
+    f.run (replay set_up.geometry source_in_destination opened) 0 7 (ltb-true 1 2 refl) refl refl (eqb-false 0 7 refl) (own-run source_in_destination f) f.agrees

@@ -33,6 +33,7 @@ use Rattle.nv_examples.specs.Logs.{logged}
 use Rattle.nv_world_model.specs.Geometry.{shape_of}
 use Rattle.nv_examples.specs.Breaches.{store_into_list, holds_along, last_byte}
 use Rattle.nv_examples.specs.Guests.{first, opened, set_up}
+use Rattle.nv_examples.proofs.Blank.{own-run}
 use Rattle.nv_examples.proofs.Refuting.{other-byte}
 use Rattle.nv_examples.proofs.breaches.store_into_list.Goals as goal
 
@@ -76,4 +77,4 @@ unfolding number_at dword qword bits bytes_of_dwords completion everywhere addre
     none_failed is_disciplined taken_entries private_steps seen_by logged holds_along last_byte
 returns-clause-it_has_no_such_run c f =
     other-byte first 0x0801 (run_of (shape_of first) (private_steps set_up.geometry 0 first (logged set_up.geometry store_into_list opened) opened) start)
-    f.run (replay set_up.geometry store_into_list opened) 7 0 refl refl refl refl (eqb-false 7 0 refl) f.runs f.agrees
+    f.run (replay set_up.geometry store_into_list opened) 7 0 refl refl refl refl (eqb-false 7 0 refl) (own-run store_into_list f) f.agrees

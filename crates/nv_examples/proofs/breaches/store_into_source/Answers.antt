@@ -34,6 +34,7 @@ use Rattle.nv_examples.specs.Logs.{logged}
 use Rattle.nv_world_model.specs.Geometry.{shape_of}
 use Rattle.nv_examples.specs.Breaches.{store_into_source, holds_along, last_byte}
 use Rattle.nv_examples.specs.Guests.{first, opened, set_up}
+use Rattle.nv_examples.proofs.Blank.{own-run}
 use Rattle.nv_examples.proofs.Refuting.{other-block}
 use Rattle.nv_examples.proofs.breaches.store_into_source.Goals as goal
 
@@ -77,4 +78,4 @@ unfolding number_at dword qword bits bytes_of_dwords completion everywhere addre
     none_failed is_disciplined taken_entries private_steps seen_by logged holds_along last_byte
 returns-clause-it_has_no_such_run c f =
     other-block first 0 0 (run_of (shape_of first) (private_steps set_up.geometry 0 first (logged set_up.geometry store_into_source opened) opened) start)
-    f.run (replay set_up.geometry store_into_source opened) 7 0 (ltb-true 0 2 refl) refl refl (eqb-false 7 0 refl) f.runs f.agrees
+    f.run (replay set_up.geometry store_into_source opened) 7 0 (ltb-true 0 2 refl) refl refl (eqb-false 7 0 refl) (own-run store_into_source f) f.agrees

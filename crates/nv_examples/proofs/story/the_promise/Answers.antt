@@ -6,8 +6,11 @@ use Rattle.nv_model.specs.Controller.{Controller}
 use Rattle.nv_model.specs.Private.{Run, Step, run_of, start}
 use Rattle.nv_world_model.specs.Geometry.{regions_of, shape_of}
 use Rattle.nv_examples.specs.Stepping.{behind_run, seen_along}
-use Rattle.nv_examples.specs.Guests.{first}
+use Rattle.nv_world_model.specs.PrivateSteps.{private_steps}
+use Rattle.nv_examples.specs.Guests.{first, opened, set_up}
+use Rattle.nv_examples.specs.Story.{story}
 use Rattle.nv_examples.specs.StoryRun.{story_end, story_private, story_run}
+use Rattle.nv_examples.proofs.Blank.{to-blank}
 use Rattle.nv_examples.proofs.StoryEnd.{same-memory}
 use Rattle.nv_examples.proofs.StoryFacts.{block-0, block-1, can-be-made, controller-private, controller-world, disk-2, disk-3, disk_marks, marks, seen-logged, the-steps}
 use Rattle.nv_examples.proofs.story.the_promise.Goals as goal
@@ -37,7 +40,9 @@ pub returns : goal.returns
 returns c =
     record {
       run = record { state = story_private; seen = seen_along story_run };
-      runs = ap (λ (ss : List Step). run_of (shape_of first) ss start) the-steps ∙ run-is story_run can-be-made;
+      runs =
+          to-blank first set_up.geometry set_up.lanes (private_steps set_up.geometry 0 first story opened)
+          ∙ ap (λ (ss : List Step). run_of (shape_of first) ss start) the-steps ∙ run-is story_run can-be-made;
       seen = seen-logged;
       agrees =
           record {

@@ -53,3 +53,23 @@ unfolding number_at dword qword bits bytes_of_dwords completion everywhere addre
     statuses_of step replay replies admin_command admin cut shown shared_numbers guest_standing AreContained logged private_steps seen_by none_failed
     opening_world
 returns-clause-zero_blocks c = refl
+
+pub returns-clause-own_bytes : goal.returns-clause-own_bytes
+unfolding number_at dword qword bits bytes_of_dwords completion everywhere addresses bytes_from stored gathered scattered image in_memory and_then
+    first_read in_transcript read_array read_sgl read_entries read_source ranges_in move_units clear_units range_units judge units_moved opening
+    register reg_write doorbell front took post ran_out differs hosts_of fit_behind built plan_over physical_entry held_of device_unit
+    completion_written share_written with_tags group claimed put_image units_behind rest_at rests_of members seat put_back acted_in administered_in
+    taken_to listed submitted handed_on device_took device_moved device_posted kept_block reaped scattered_to delivered_all posted_to ran_out_of
+    statuses_of step replay replies admin_command admin cut shown shared_numbers guest_standing AreContained logged private_steps seen_by none_failed
+    opening_world
+returns-clause-own_bytes c = refl
+
+pub returns-clause-own_blocks : goal.returns-clause-own_blocks
+unfolding number_at dword qword bits bytes_of_dwords completion everywhere addresses bytes_from stored gathered scattered image in_memory and_then
+    first_read in_transcript read_array read_sgl read_entries read_source ranges_in move_units clear_units range_units judge units_moved opening
+    register reg_write doorbell front took post ran_out differs hosts_of fit_behind built plan_over physical_entry held_of device_unit
+    completion_written share_written with_tags group claimed put_image units_behind rest_at rests_of members seat put_back acted_in administered_in
+    taken_to listed submitted handed_on device_took device_moved device_posted kept_block reaped scattered_to delivered_all posted_to ran_out_of
+    statuses_of step replay replies admin_command admin cut shown shared_numbers guest_standing AreContained logged private_steps seen_by none_failed
+    opening_world
+returns-clause-own_blocks c = refl

@@ -1,11 +1,13 @@
-use Rattle.std.proofs.Common.{List, ap, sym, ◌∙◌, subst}
+use Rattle.std.proofs.Common.{List, Some, ap, sym, ◌∙◌, subst}
 use Rattle.nv_model.specs.Private.{Step, run_of, start}
 use Rattle.nv_world_model.specs.Agrees.{Agrees}
 use Rattle.nv_world_model.specs.Geometry.{shape_of}
-use Rattle.nv_world_model.specs.PrivateSteps.{seen_by}
+use Rattle.nv_world_model.specs.PrivateSteps.{private_steps, seen_by}
 use Rattle.nv_world_model.specs.World.{World}
 use Rattle.nv_world_model.specs.declared.logged.Logged.{Logged}
 use Rattle.nv_examples.specs.Guests.{first, opened, set_up}
+use Rattle.nv_examples.specs.Logs.{logged}
+use Rattle.nv_examples.proofs.Blank.{from-blank}
 use Rattle.nv_examples.proofs.Own.{logged-own, replay-own, steps-own}
 use Rattle.nv_examples.proofs.wrong_worlds.the_worlds_own_step.Goals as goal
 
@@ -13,7 +15,8 @@ pub returns : goal.returns
 returns c events p =
     record {
       run = p.run;
-      runs = ap (λ (ss : List Step). run_of (shape_of first) ss start) (steps-own set_up.geometry first events opened) ∙ p.runs;
+      runs = ap (λ (ss : List Step). run_of (shape_of first) ss start) (steps-own set_up.geometry first events opened)
+          ∙ from-blank first set_up.geometry set_up.lanes (private_steps set_up.geometry 0 first (logged set_up.geometry events opened) opened) (Some p.run) p.runs;
       seen = p.seen ∙ ap (λ (ls : List Logged). seen_by 0 ls) (sym (logged-own set_up.geometry events opened));
       agrees = subst (λ (w : World). Agrees 0 first w p.run.state) (sym (replay-own set_up.geometry events opened)) p.agrees;
     }

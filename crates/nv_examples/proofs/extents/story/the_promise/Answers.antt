@@ -6,8 +6,11 @@ use Rattle.nv_model.specs.Controller.{Controller}
 use Rattle.nv_model.specs.Private.{Run, Step, run_of, start}
 use Rattle.nv_world_model.specs.Geometry.{regions_of, shape_of}
 use Rattle.nv_examples.specs.Stepping.{behind_run, seen_along}
-use Rattle.nv_examples.specs.extents.Guests.{first}
+use Rattle.nv_world_model.specs.PrivateSteps.{private_steps}
+use Rattle.nv_examples.specs.extents.Guests.{first, opened, set_up}
+use Rattle.nv_examples.specs.extents.Story.{story}
 use Rattle.nv_examples.specs.extents.StoryRun.{story_end, story_private, story_run}
+use Rattle.nv_examples.proofs.Blank.{to-blank}
 use Rattle.nv_examples.proofs.several_extents.StoryEnd.{same-memory}
 use Rattle.nv_examples.proofs.several_extents.StoryFacts.{block-0, block-1, block-2, block-3, can-be-made, controller-private, controller-world}
 use Rattle.nv_examples.proofs.several_extents.StoryFacts.{disk-10, disk-2, disk-3, disk-9, marks-private, marks-world, seen-logged, the-steps}
@@ -52,7 +55,9 @@ pub returns : goal.returns
 returns c =
     record {
       run = record { state = story_private; seen = seen_along story_run };
-      runs = ap (λ (ss : List Step). run_of (shape_of first) ss start) the-steps ∙ run-is story_run can-be-made;
+      runs =
+          to-blank first set_up 1 (private_steps set_up 0 first story opened)
+          ∙ ap (λ (ss : List Step). run_of (shape_of first) ss start) the-steps ∙ run-is story_run can-be-made;
       seen = seen-logged;
       agrees =
           record {
