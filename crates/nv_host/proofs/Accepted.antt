@@ -37,8 +37,10 @@ module _ (s : SetUp) (is : IsAccepted s) where
     lies-out = host-laid-out s is sound
 
     -- a world that is reached is as events leave it, and keeps the promise
-    pub leads-live : (side : Side) (memory : List ℕ) (log : List Logged) (z : World) → IsReached s side memory log z → IsLive s.geometry z
-    leads-live side memory log z so = reached-live s side memory log z is sound so
+    pub leads-live : (first : World) (side : Side) (memory : List ℕ) (log : List Logged) (z : World) → IsReached s first side memory log z
+        → IsLive s.geometry z
+    leads-live first side memory log z so = reached-live s first side memory log z is sound so
 
-    pub leads-promised : (side : Side) (memory : List ℕ) (log : List Logged) (z : World) → IsReached s side memory log z → Headline s log z
-    leads-promised side memory log z so = reached-promised s side memory log z is sound so
+    pub leads-promised : (first : World) (side : Side) (memory : List ℕ) (log : List Logged) (z : World) → IsReached s first side memory log z
+        → Headline s.geometry first log z
+    leads-promised first side memory log z so = reached-promised s first side memory log z is sound so

@@ -90,9 +90,9 @@ module _ (h : Served) (is : IsServed h) (e : Event) (mine : IsMediators e) (new 
         next = record {
           setup = refl;
           closed = refl;
-          logs = (λ log z leads.
+          logs = (λ first log z leads.
               let on = step-beside h.setup.geometry e mine h.side new before after r made many z leads.beside in
-              (on.reply, call-reached h.setup e h.side new before after r log z mine leads on));
+              (on.reply, call-reached h.setup first e h.side new before after r log z mine leads on));
         };
         worlds = (λ w on. step-beside h.setup.geometry e mine h.side new before after r made many w on);
         dull = (λ quiet.

@@ -39,7 +39,7 @@ module _ (h o : Served) (view : h ≡ o) (memory : List ℕ) (b : Bool) where
 
   pub told-live : (is : IsServed h) (lane : ℕ)
       → ((w : World) → IsBeside h.side memory w → IsLive h.setup.geometry w → b ≡ due h.setup.geometry (event.Reap lane) w)
-      → (log : List Logged) (z : World) → LeadsTo o memory log z → b ≡ due o.setup.geometry (event.Reap lane) z
+      → (first : World) (log : List Logged) (z : World) → LeadsTo o first memory log z → b ≡ due o.setup.geometry (event.Reap lane) z
   told-live is lane told =
-      subst (λ (x : Served). (log : List Logged) (z : World) → LeadsTo x memory log z → b ≡ due x.setup.geometry (event.Reap lane) z) view
-      (λ log z leads. told z leads.beside (leads-live h.setup is.accepted is.sound h.side memory log z leads))
+      subst (λ (x : Served). (first : World) (log : List Logged) (z : World) → LeadsTo x first memory log z → b ≡ due x.setup.geometry (event.Reap lane) z) view
+      (λ first log z leads. told z leads.beside (leads-live h.setup is.accepted is.sound first h.side memory log z leads))

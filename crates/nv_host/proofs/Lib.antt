@@ -7,3 +7,4 @@ pub mod Over
 pub mod Reaps
 pub mod Ring
 pub mod Starts
+pub mod Cleared

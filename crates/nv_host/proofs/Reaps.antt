@@ -75,9 +75,9 @@ module _ {E : Type 0} (h o : Served) (view : h ≡ o) (is : IsServed h) (lane : 
       (record {
         setup = refl;
         closed = refl;
-        logs = (λ log z leads.
-            let on = made z leads.beside (leads-live h.setup is.accepted is.sound h.side memory log z leads) in
-            (on.reply, call-reached h.setup (event.Reap lane) h.side new memory memory r log z tt leads on));
+        logs = (λ first log z leads.
+            let on = made z leads.beside (leads-live h.setup is.accepted is.sound first h.side memory log z leads) in
+            (on.reply, call-reached h.setup first (event.Reap lane) h.side new memory memory r log z tt leads on));
       })
   reap-next (Err x) made = tt
 
@@ -87,4 +87,4 @@ module _ {E : Type 0} (h o : Served) (view : h ≡ o) (is : IsServed h) (lane : 
   reap-stray (Ok r) never = tt
   reap-stray (Err x) never =
       subst (λ (y : Served). IsUnreached y memory) view
-      (λ log z leads. never z leads.beside (leads-live h.setup is.accepted is.sound h.side memory log z leads))
+      (λ first log z leads. never z leads.beside (leads-live h.setup is.accepted is.sound first h.side memory log z leads))

@@ -1,18 +1,20 @@
 -- The mediator of a host that has memory and a drive of its own: what the code holds, which logs lead to it, and what a call comes to (profile).
-use Rattle.std.specs.Prelude.{◌≡◌, ℕ, Bool, true, false, List, [], ◌∷◌, ◌++◌, not, Option, length, replicate, slice_get, Some, None}
-use Rattle.nv_core.specs.Front.{IsBeside, IsSideOf, IsStepBeside, Side}
+use Rattle.std.specs.Prelude.{◌≡◌, ℕ, ◌<◌, ◌≤◌, ◌⊎◌, Bool, true, false, List, [], ◌∷◌, ◌++◌, not, Option, length, replicate, slice_get, Some, None}
+use Rattle.nv_core.specs.Front.{IsBeside, IsSideOf, IsStepBeside, Side, opening_side}
 use Rattle.nv_core.specs.Kept.{IsKept}
 use Rattle.nv_laws_front.specs.Reached.{IsReached}
 use Rattle.nv_laws_sound.specs.Counted.{IsCounted}
 use Rattle.nv_mediator.specs.Refused.{refused}
 use Rattle.nv_mediator.specs.declared.refusal.Refusal.{Refusal as Named}
 use Rattle.nv_mem.specs.GuestMap.{IsSound}
+use Rattle.nv_model.specs.Memory.{byte_in}
 use Rattle.nv_model.specs.declared.reply.Reply.{Reply}
+use Rattle.nv_world_model.specs.Area.{completion_slot, ring_size}
 use Rattle.nv_world_model.specs.Geometry.{Geometry, Guest}
 use Rattle.nv_world_model.specs.Headline.{Headline}
-use Rattle.nv_world_model.specs.SetUp.{SetUp, host_refusal_of, world_at_start}
+use Rattle.nv_world_model.specs.SetUp.{SetUp, host_refusal_of}
 use Rattle.nv_world_model.specs.Step.{is_telling, step}
-use Rattle.nv_world_model.specs.World.{World}
+use Rattle.nv_world_model.specs.World.{World, opening_world}
 use Rattle.nv_world_model.specs.declared.event.Event.{Event}
 use Rattle.nv_world_model.specs.declared.event.Event.TheVariants as event
 use Rattle.nv_world_model.specs.declared.logged.Logged.{Logged}
@@ -45,18 +47,19 @@ first_refusal s = refused (host_refusal_of s)
 
 -- ---- logs
 
--- a log of calls with their replies, and of what the drive has done meanwhile, leads from the start of the set-up, in a memory of zeros, to the world
--- z, where the mediator is this and the memory is that; the world says besides what the drive has, and which blocks its disk has
-abbrev pub LeadsTo : Served → (memory : List ℕ) → List Logged → World → Type 0
-LeadsTo h memory log z = IsReached h.setup h.side memory log z
+-- a log of calls with their replies, and of what the drive has done meanwhile, leads from the world `first` at the start of the set-up to the world z,
+-- where the mediator is this and the memory is that. A world says besides what the drive has, and which blocks its disk has; at the start memory and disk
+-- are as they happen to be, but that the lanes' completion rings are clear
+abbrev pub LeadsTo : Served → (first : World) → (memory : List ℕ) → List Logged → World → Type 0
+LeadsTo h first memory log z = IsReached h.setup first h.side memory log z
 
 -- a call was the next event of each log that leads to it: its reply is the definition's, and the log with it leads to what is there after the call
 pub record IsNext (e : Event) (old : Served) (before : List ℕ) (r : Reply) (new : Served) (after : List ℕ) : Type 0 where
   pub setup : new.setup ≡ old.setup
   pub closed : new.closed ≡ old.closed
-  pub logs : (log : List Logged) (z : World) → LeadsTo old before log z
+  pub logs : (first : World) (log : List Logged) (z : World) → LeadsTo old first before log z
       → ((step old.setup.geometry e z).reply ≡ r)
-      × LeadsTo new after (log ++ record { event = e; reply = r } ∷ []) (step old.setup.geometry e z).world
+      × LeadsTo new first after (log ++ record { event = e; reply = r } ∷ []) (step old.setup.geometry e z).world
 
 -- and so it is in each world in which the mediator and the memory may be at all, whatever led there; and where the reply reports neither a change nor
 -- bytes, nothing has changed
@@ -65,22 +68,33 @@ pub record IsDone (e : Event) (old : Served) (before : List ℕ) (r : Reply) (ne
   pub worlds : (w : World) → IsBeside old.side before w → IsStepBeside old.setup.geometry e w r new.side after
   pub dull : is_telling r ≡ false → (new ≡ old) × (after ≡ before)
 
--- at the start of a set-up: the log without events leads there, and no lane is closed
-pub record IsAtStart (s : SetUp) (h : Served) : Type 0 where
-  pub setup : h.setup ≡ s
-  pub closed : h.closed ≡ replicate s.lanes false
-  pub led : LeadsTo h (replicate s.host_bytes 0) [] (world_at_start s)
+-- the mediator of a set-up as it is made: no lane is closed
+abbrev pub opened : SetUp → Served
+opened s = record { setup = s; side = opening_side s.geometry s.lanes; closed = replicate s.lanes false }
+
+-- at the start of a set-up: whatever the drive's disk has, the log without events leads there from the world with it and this memory
+pub record IsAtStart (s : SetUp) (h : Served) (memory : List ℕ) : Type 0 where
+  pub made : h ≡ opened s
+  pub led : (disk : ℕ → ℕ → ℕ) → (let w = opening_world (byte_in memory) disk s.geometry s.lanes in LeadsTo h w memory [] w)
+
+-- a memory has changed in the lanes' completion rings alone
+abbrev pub AreRingsAlone : SetUp → (before after : List ℕ) → Type 0
+AreRingsAlone s before after =
+    (at : ℕ)
+    → ((lane : ℕ) → lane < s.lanes
+      → (at < completion_slot s.geometry.mediator lane 0) ⊎ (completion_slot s.geometry.mediator lane ring_size ≤ at))
+    → byte_in after at ≡ byte_in before at
 
 -- no log leads there
 abbrev pub IsUnreached : Served → (memory : List ℕ) → Type 0
-IsUnreached h memory = (log : List Logged) (z : World) → LeadsTo h memory log z → ⊥
+IsUnreached h memory = (first : World) (log : List Logged) (z : World) → LeadsTo h first memory log z → ⊥
 
 -- ---- what is promised
 
--- of every log that leads to it, in whatever memory, the whole promise holds: what each disciplined guest none of whose commands failed has seen, and
+-- of every log that leads to it, in whatever memory and from whatever start, the whole promise holds: what each disciplined guest none of whose commands failed has seen, and
 -- has, is a run of its own private controller's, and each event is contained
 abbrev pub IsPromised : Served → Type 0
-IsPromised h = (memory : List ℕ) (log : List Logged) (z : World) → LeadsTo h memory log z → Headline h.setup log z
+IsPromised h = (first : World) (memory : List ℕ) (log : List Logged) (z : World) → LeadsTo h first memory log z → Headline h.setup.geometry first log z
 
 -- ---- what is kept
 

@@ -17,7 +17,7 @@ impl HostMediator {
     #[tactic(auto, unfolding(nv_world_model::specs::Due::due))]
     pub fn due<C: MemoryCell>(&self, event: &Event, memory: &[C]) -> bool
         requires { length (C.bytes memory.now) ≡ self.now.setup.host_bytes }
-        ensures logs { (log : List Logged) (z : World) → LeadsTo self.now (C.bytes memory.now) log z →
+        ensures logs { (first : World) (log : List Logged) (z : World) → LeadsTo self.now first (C.bytes memory.now) log z →
             result ≡ (is_offered self.now event.now && due self.now.setup.geometry event.now z) }
         ensures worlds { (w : World) → IsBeside self.now.side (C.bytes memory.now) w → is_reap event.now ≡ false →
             result ≡ (is_offered self.now event.now && due self.now.setup.geometry event.now w) }
@@ -60,7 +60,7 @@ impl HostMediator {
     // Whether a completion of a lane waits.
     fn reap_due<C: MemoryCell>(&self, lane: u8, memory: &[C]) -> bool
         requires { length (C.bytes memory.now) ≡ self.now.setup.host_bytes }
-        ensures { (log : List Logged) (z : World) → LeadsTo self.now (C.bytes memory.now) log z →
+        ensures { (first : World) (log : List Logged) (z : World) → LeadsTo self.now first (C.bytes memory.now) log z →
             result ≡ due self.now.setup.geometry (Event.Reap lane) z }
     {
         self.front.reap_due(&self.layout, lane, memory)

@@ -1,11 +1,11 @@
 //! The mediator of a host, and what is promised of it.
 
-ghost use Rattle.std.specs.Prelude.{◌≡◌, ◌⊎◌, IfErr, IfOk, Some};
-ghost use Rattle.nv_host.specs.Served.{IsAccepted, IsAtStart, IsPromised, first_refusal};
+ghost use Rattle.std.specs.Prelude.{◌≡◌, ◌⊎◌, IfErr, IfOk, OnErr, Some, length};
+ghost use Rattle.nv_host.specs.Served.{AreRingsAlone, IsAccepted, IsAtStart, IsPromised, first_refusal, opened};
 
 use nv_core::{Front, Layout};
 use nv_mediator::{Refusal, Setup};
-use nv_mem::NoMemory;
+use nv_mem::{MemoryCell, NoMemory};
 use std::alloc::Global;
 use std::marker::Model;
 
@@ -33,26 +33,37 @@ impl Model for HostMediator {
 }
 
 impl HostMediator {
-    /// The mediator of a set-up at its start. The memory that the calls are lent is all zeros then.
+    /// The mediator of a set-up at its start, whatever the drive's blocks and the memory have. Zeros are written into the lanes' completion rings, as a
+    /// driver does before a controller has them; no other byte changes.
     ///
     /// # Errors
     ///
-    /// The first reason for which the set-up is refused, or that memory was.
-    pub fn new(alloc: Global, setup: Setup) -> Result<Self, Refusal>
-        ensures ok { IfOk result (λ mediator. IsAtStart setup mediator) }
+    /// The first reason for which the set-up is refused, or that memory was: nothing has changed.
+    pub fn new<C: MemoryCell>(
+        alloc: Global,
+        setup: Setup,
+        memory: &mut [C],
+    ) -> Result<Self, Refusal>
+        requires { length (C.bytes memory.old) ≡ setup.host_bytes }
+        ensures ok { IfOk result (λ mediator. IsAtStart setup mediator (C.bytes memory.new)) }
         ensures accepted { IfOk result (λ _. IsAccepted setup) }
+        ensures rings { IfOk result (λ _. AreRingsAlone setup (C.bytes memory.old) (C.bytes memory.new)) }
+        ensures len { length (C.bytes memory.new) ≡ length (C.bytes memory.old) }
+        ensures same { OnErr result (C.bytes memory.new ≡ C.bytes memory.old) }
         ensures err { IfErr result (λ refusal. (first_refusal setup ≡ Some refusal) ⊎ ((refusal ≡ Refusal.NoMemory) × IsAccepted setup)) }
     {
         if let Some(refusal) = setup.host_refusal() {
             return Err(refusal);
         }
-        Self::open(alloc, setup).map_err(|_| Refusal::NoMemory)
+        let mediator = Self::open(alloc, setup).map_err(|_| Refusal::NoMemory)?;
+        mediator.clear_rings(memory);
+        Ok(mediator)
     }
 
     // The mediator of a set-up that is not refused.
     fn open(alloc: Global, setup: Setup) -> Result<Self, NoMemory>
         requires { IsAccepted setup }
-        ensures { IfOk result (λ mediator. IsAtStart setup mediator) }
+        ensures { IfOk result (λ mediator. mediator ≡ opened setup) }
     {
         let host_bytes = setup.host_bytes;
         let lanes = setup.lanes as u8;
@@ -70,7 +81,7 @@ impl HostMediator {
 
     /// What is promised of the mediator as it is; it does nothing.
     ///
-    /// Of every log that leads to it, in whatever memory, the whole promise holds. Each event is contained: it reads and changes nothing of any guest but
+    /// Of every log that leads to it, in whatever memory and from whatever start, the whole promise holds. Each event is contained: it reads and changes nothing of any guest but
     /// its owner. What a disciplined guest has seen, its memory and its namespace are those of a run of its own commands on a private controller, where
     /// the drive failed none of them.
     ///

@@ -1,11 +1,20 @@
 //! What the host needs for the drive's queues: where each lane's rings lie, and what their doorbells are to have.
 
-ghost use Rattle.std.specs.Prelude.{◌≡◌, ◌+◌, ◌*◌, ◌<◌, ◌≤◌, MatchOption, option_map, slice_get};
+ghost use Rattle.std.specs.Prelude.{◌≡◌, ◌+◌, ◌*◌, ◌<◌, ◌≤◌, ℕ, MatchOption, length, option_map, slice_get};
+ghost use Rattle.nv_host.specs.Closing.{IsRingAlone};
+ghost use Rattle.nv_host.specs.Served.{AreRingsAlone};
+ghost use Rattle.nv_laws_sound.specs.Phased.{AreRingsClear};
 ghost use Rattle.nv_model.specs.Limits.{page};
-ghost use Rattle.nv_world_model.specs.Area.{completion_slot, lane_pages, lane_start, submission_slot};
+ghost use Rattle.nv_model.specs.Memory.{byte_in};
+ghost use Rattle.nv_model.specs.Queue.{cqe_size};
+ghost use Rattle.nv_world_model.specs.Area.{completion_slot, lane_pages, lane_start, ring_size, submission_slot};
 
 use crate::host_mediator::HostMediator;
-use nv_model::limits::{LANE_SIZE, PAGE_SIZE, SUBMISSION_RING_PAGES};
+use nv_mem::MemoryCell;
+use nv_model::limits::{CQE_SIZE, LANE_SIZE, PAGE_SIZE, RING_SLOTS, SUBMISSION_RING_PAGES};
+
+/// How many bytes a lane's completion ring has.
+const RING_BYTES: usize = CQE_SIZE as usize * RING_SLOTS as usize;
 
 impl HostMediator {
     /// The slot of a lane's submission ring that the next entry goes to, 0 to 64: what the drive's tail doorbell of the ring is to have. `None` where there
@@ -38,6 +47,31 @@ impl HostMediator {
             (λ addr. (lane < self.now.setup.lanes) × (addr ≡ completion_slot self.now.setup.geometry.mediator lane 0)) }
     {
         self.place(lane, PAGE_SIZE * SUBMISSION_RING_PAGES)
+    }
+
+    /// Zeros are written into the completion rings of all lanes; no other byte changes.
+    pub(crate) fn clear_rings<C: MemoryCell>(&self, memory: &mut [C])
+        requires { length (C.bytes memory.old) ≡ self.now.setup.host_bytes }
+        ensures clear { AreRingsClear self.now.setup (byte_in (C.bytes memory.new)) }
+        ensures alone { AreRingsAlone self.now.setup (C.bytes memory.old) (C.bytes memory.new) }
+        ensures len { length (C.bytes memory.new) ≡ length (C.bytes memory.old) }
+    {
+        for lane in 0..self.lanes {
+            self.clear_ring(lane, memory);
+        }
+    }
+
+    // And into that of one.
+    fn clear_ring<C: MemoryCell>(&self, lane: u8, memory: &mut [C])
+        requires there { lane < self.now.setup.lanes }
+        requires lent { length (C.bytes memory.old) ≡ self.now.setup.host_bytes }
+        ensures clear { (at : ℕ) → at < cqe_size * ring_size →
+            byte_in (C.bytes memory.new) (completion_slot self.now.setup.geometry.mediator lane 0 + at) ≡ 0 }
+        ensures alone { IsRingAlone self.now.setup.geometry lane (C.bytes memory.old) (C.bytes memory.new) }
+    {
+        if let Some(ring) = self.completion_ring(lane) {
+            C::store(memory, ring, &[0; RING_BYTES]);
+        }
     }
 
     // The host address of a byte of a lane's part of the mediator's area; `None` where there is no such lane.

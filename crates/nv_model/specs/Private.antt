@@ -103,48 +103,31 @@ pub record Moved : Type 0 where
   pub kept : ℕ → Bool
   pub differed : Bool
 
+abbrev pub after_unit : (memory : ℕ → ℕ) (disk : ℕ → ℕ → ℕ) (kept : ℕ → Bool) (differed : Bool) → Moved
+after_unit memory disk kept differed = record { memory = memory; disk = disk; kept = kept; differed = differed }
+
 -- a block of a transfer, by the command
 abbrev pub block_moved : IoOpcode → Work → (index lba : ℕ) → (ℕ → ℕ) → (ℕ → ℕ → ℕ) → (ℕ → Bool) → Moved
 -- to the buffer; a set FUA bit makes the block kept
 block_moved Read work index lba memory disk kept =
-    record {
-      memory = scattered memory (places_of_block work index) (block_bytes disk lba);
-      disk = disk;
-      kept = marked kept lba (kept lba || work.fua);
-      differed = false;
-    }
+    after_unit (scattered memory (places_of_block work index) (block_bytes disk lba)) disk (marked kept lba (kept lba || work.fua)) false
 -- from the buffer
 block_moved Write work index lba memory disk kept =
-    record {
-      memory = memory;
-      disk = block_written disk lba (gathered memory (places_of_block work index));
-      kept = marked kept lba work.fua;
-      differed = false;
-    }
+    after_unit memory (block_written disk lba (gathered memory (places_of_block work index))) (marked kept lba work.fua) false
 -- against the buffer
 block_moved Compare work index lba memory disk kept =
-    record {
-      memory = memory;
-      disk = disk;
-      kept = marked kept lba (kept lba || work.fua);
-      differed = differs (gathered memory (places_of_block work index)) (block_bytes disk lba);
-    }
+    after_unit memory disk (marked kept lba (kept lba || work.fua))
+    (differs (gathered memory (places_of_block work index)) (block_bytes disk lba))
 -- the others are no transfers
-block_moved _ work index lba memory disk kept = record { memory = memory; disk = disk; kept = kept; differed = false }
+block_moved _ work index lba memory disk kept = after_unit memory disk kept false
 
 -- a unit of a command
 abbrev pub unit_moved : WorkUnit → Work → (ℕ → ℕ) → (ℕ → ℕ → ℕ) → (ℕ → Bool) → Moved
 unit_moved (MoveBlock index lba) work memory disk kept = block_moved work.opcode work index lba memory disk kept
 unit_moved (ClearBlock lba mark) work memory disk kept =
-    record {
-      memory = memory;
-      disk = block_written disk lba (replicate block 0);
-      kept = marked kept lba mark;
-      differed = false;
-    }
-unit_moved (LeaveBlock lba) work memory disk kept = record { memory = memory; disk = disk; kept = kept; differed = false }
-unit_moved (KeepAll blocks) work memory disk kept =
-    record { memory = memory; disk = disk; kept = (λ lba. nat_lt lba blocks || kept lba); differed = false }
+    after_unit memory (block_written disk lba (replicate block 0)) (marked kept lba mark) false
+unit_moved (LeaveBlock lba) work memory disk kept = after_unit memory disk kept false
+unit_moved (KeepAll blocks) work memory disk kept = after_unit memory disk (λ lba. nat_lt lba blocks || kept lba) false
 
 -- the status of a command all of whose units have moved
 abbrev pub moved_status : (differed : Bool) → StatusField

@@ -9,4 +9,4 @@ returns-clause-accepted c = subst (λ (h : Served). IsAccepted h.setup) c.self.v
 pub returns-clause-promised : goal.returns-clause-promised
 returns-clause-promised c =
     let h : Served = record { setup = record { host_bytes = c.self.inside.host_bytes; lanes = c.self.inside.lanes; geometry = c.self.inside.layout }; side = c.self.inside.front; closed = c.self.inside.closed.items } in
-    subst IsPromised c.self.view_is (λ memory log z leads. leads-promised h.setup c.self.invariant.accepted c.self.invariant.sound h.side memory log z leads)
+    subst IsPromised c.self.view_is (λ first memory log z leads. leads-promised h.setup c.self.invariant.accepted c.self.invariant.sound first h.side memory log z leads)
