@@ -1,5 +1,7 @@
 //! A mediator of a host, with the host's memory and what a drive does to it.
 
+ghost use Rattle.std.specs.Prelude.{◌≡◌, IfSome, length};
+
 use nv_bringup::{BLOCKS, BRING_UP, Span, act_of, guest_at, setup_of};
 use nv_entry::{Cqe, Sqe, StatusCode};
 use nv_host::{Closed, HostMediator, Stray};
@@ -45,8 +47,8 @@ impl Bench {
     pub fn new(alloc: Global) -> Option<Self> {
         let guest = guest_at(alloc, HOST, IMAGE, WHOLE)?;
         let guests = vec![in alloc; guest].ok()?;
-        let mediator = HostMediator::new(alloc, setup_of(HOST, 2, guests)).ok()?;
-        let memory = vec![in alloc; 0; mediator.host_bytes() as usize].ok()?;
+        let mut memory = memory_of(alloc, HOST)?;
+        let mediator = HostMediator::new(alloc, setup_of(HOST, 2, guests), &mut memory).ok()?;
         Some(Bench {
             mediator,
             memory,
@@ -173,4 +175,11 @@ impl Bench {
         bytes.copy_from_slice(&self.memory[from..to]);
         Some(Sqe::of(&bytes))
     }
+}
+
+// A memory of so many bytes; none where memory was refused.
+fn memory_of(alloc: Global, len: u64) -> Option<Vec<u8>>
+    ensures { IfSome result (λ memory. length memory.items ≡ len) }
+{
+    vec![in alloc; 0; len as usize].ok()
 }

@@ -6,9 +6,10 @@ ghost use Rattle.nv_mem.specs.Lent.{bytes_of_hosts};
 use crate::drive;
 use crate::plans::Plans;
 use crate::watched::Watched;
+use nv_bringup::Random;
 use nv_device::Device;
 use nv_host::{HostMediator, Setup, Stray};
-use nv_mem::{Bytes, Host, NoMemory};
+use nv_mem::{Bytes, Host, MemoryCell, NoMemory};
 use nv_model::limits::RING_SLOTS;
 use nv_model::{Act, Reply};
 use nv_plan::{Plan, Planned, make_plan};
@@ -51,12 +52,12 @@ impl Desk {
     pub fn new(alloc: Global, setup: Setup) -> Option<Self> {
         let area = setup.mediator;
         let disk_blocks = setup.disk_blocks;
-        let mediator = HostMediator::new(alloc, setup).ok()?;
+        let mut memory = memory_of(alloc, setup.host_bytes, area)?;
+        let mediator = HostMediator::new(alloc, setup, &mut memory).ok()?;
         let lanes = mediator.lanes();
         if !Device::fits(area, lanes, disk_blocks) {
             return None;
         }
-        let memory = memory_of(alloc, mediator.host_bytes(), area)?;
         let device = Device::new(alloc, area, lanes, disk_blocks).ok()?;
         Some(Desk {
             mediator,
@@ -64,6 +65,38 @@ impl Desk {
             memory,
             plans: Plans::new(),
         })
+    }
+
+    /// The host starts anew: a mediator is made of the set-up in a memory full of other bytes. The drive stays as it is, so its rings have to be as at the
+    /// start. Whether there is such a mediator.
+    pub fn restart(&mut self, alloc: Global, setup: Setup, random: &mut Random) -> bool {
+        self.scramble(random);
+        if setup.host_bytes != self.mediator.host_bytes() {
+            return false;
+        }
+        let Ok(mediator) = HostMediator::new(alloc, setup, &mut self.memory) else {
+            return false;
+        };
+        self.mediator = mediator;
+        true
+    }
+
+    // Other bytes are everywhere in the memory.
+    fn scramble(&mut self, random: &mut Random) {
+        for row in 0..self.mediator.host_bytes() / 16 {
+            self.scribble(row, random);
+        }
+    }
+
+    // Other bytes are in a row of 16.
+    fn scribble(&mut self, row: u64, random: &mut Random) {
+        let addr = row.wrapping_mul(16);
+        let bytes = [random.byte(); 16];
+        if let Some(watched) = self.memory.first() {
+            if watched.host.holds(addr, 16) {
+                Watched::store(&mut self.memory, addr, &bytes);
+            }
+        }
     }
 
     /// Carries out an event: one of the drive by the device, any other by the mediator. Stale, too, where the mediator finds a stray completion.

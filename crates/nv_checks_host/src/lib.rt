@@ -4,7 +4,8 @@
 //!
 //! In [`log`] and [`fetch`] a [`desk::Desk`] is a `HostMediator`, a memory and a `Device`, and the two share nothing but the memory and the doorbells.
 //! Beside it goes a `Mediator`, event by event ([`pair::Pair`]): both must answer each event alike, find the same events due, and end with the same
-//! memory and disk. [`failing`] shows that a difference is found.
+//! memory and disk. [`failing`] shows that a difference is found. In [`earlier`] the host starts anew, with a drive that has data and a memory full of
+//! other bytes.
 //!
 //! The memory ([`watched::Watched`]) marks each byte that a call reads or writes. So it shows whether a call reads a byte twice, or reads what it wrote
 //! itself.
@@ -24,6 +25,8 @@ mod counts;
 mod desk;
 #[cfg(test)]
 mod drive;
+#[cfg(test)]
+mod earlier;
 #[cfg(test)]
 mod failing;
 #[cfg(test)]

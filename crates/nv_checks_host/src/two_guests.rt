@@ -72,8 +72,8 @@ fn guest(
     Some(guest)
 }
 
-// The set-up with so many lanes.
-fn setup(alloc: Global, lanes: u8) -> Option<Setup> {
+/// The set-up with so many lanes; none where memory was refused.
+pub fn setup(alloc: Global, lanes: u8) -> Option<Setup> {
     let lanes = u64::from(lanes);
     let host_bytes = AREA + LANE_SIZE * lanes;
     let first = guest(alloc, host_bytes, &FIRST, FIRST_SPANS)?;

@@ -55,7 +55,8 @@ module _ (a s : SetUp) (same : s ≡ a) (g : Geometry) (side : Side) (is : g ≡
 pub starts-at : (s : SetUp) (h : Served) (memory : List ℕ) → h ≡ opened s → AreRingsClear h.setup (byte_in memory) → IsAtStart s h memory
 starts-at s h memory is clear =
     record {
-      made = is;
+      setup = ap (λ (x : Served). x.setup) is;
+      closed = ap (λ (x : Served). x.closed) is;
       led = λ disk.
           subst (λ (x : Served). (let w = opening_world (byte_in memory) disk s.geometry s.lanes in LeadsTo x w memory [] w)) (sym is)
           (start-reached s memory disk (subst (λ (x : Served). AreRingsClear x.setup (byte_in memory)) is clear));

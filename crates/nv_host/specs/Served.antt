@@ -72,9 +72,10 @@ pub record IsDone (e : Event) (old : Served) (before : List ℕ) (r : Reply) (ne
 abbrev pub opened : SetUp → Served
 opened s = record { setup = s; side = opening_side s.geometry s.lanes; closed = replicate s.lanes false }
 
--- at the start of a set-up: whatever the drive's disk has, the log without events leads there from the world with it and this memory
+-- at the start of a set-up no lane is closed, and the log without events leads there from the world with this memory, whatever the drive's disk has
 pub record IsAtStart (s : SetUp) (h : Served) (memory : List ℕ) : Type 0 where
-  pub made : h ≡ opened s
+  pub setup : h.setup ≡ s
+  pub closed : h.closed ≡ replicate s.lanes false
   pub led : (disk : ℕ → ℕ → ℕ) → (let w = opening_world (byte_in memory) disk s.geometry s.lanes in LeadsTo h w memory [] w)
 
 -- a memory has changed in the lanes' completion rings alone
