@@ -55,7 +55,9 @@ impl HostMediator {
         if let Some(refusal) = setup.host_refusal() {
             return Err(refusal);
         }
-        let mediator = Self::open(alloc, setup).map_err(|_| Refusal::NoMemory)?;
+        let Ok(mediator) = Self::open(alloc, setup) else {
+            return Err(Refusal::NoMemory);
+        };
         mediator.clear_rings(memory);
         Ok(mediator)
     }

@@ -69,6 +69,8 @@ impl HostMediator {
             byte_in (C.bytes memory.new) (completion_slot self.now.setup.geometry.mediator lane 0 + at) ≡ 0 }
         ensures alone { IsRingAlone self.now.setup.geometry lane (C.bytes memory.old) (C.bytes memory.new) }
     {
+        // With a field comes what is kept of the lane.
+        let _known = &self.layout;
         if let Some(ring) = self.completion_ring(lane) {
             C::store(memory, ring, &[0; RING_BYTES]);
         }

@@ -1,6 +1,6 @@
 use Rattle.std.proofs.Common.{ℕ, false, replicate, ap, arith, sym, ◌∙◌}
 use Rattle.nv_host.proofs.Accepted.{lanes-small, may-have}
-use Rattle.nv_host.proofs.Starts.{starts-at, starts-served}
+use Rattle.nv_host.proofs.Starts.{made-is, starts-served}
 use Rattle.nv_world_model.specs.SetUp.{SetUp}
 use Rattle.nv_host.proofs.host_mediator.HostMediator.open.Goals as goal
 
@@ -22,4 +22,4 @@ invariant_of-result c =
 pub returns : goal.returns
 returns c =
     let s : SetUp = record { host_bytes = c.setup.inside.host_bytes; lanes = c.setup.inside.lanes; geometry = record { mediator = c.setup.inside.mediator; disk_blocks = c.setup.inside.disk_blocks; guests = c.setup.inside.guests.items } } in
-    starts-at c.args.setup s c.setup.view_is c.in_ok-layout.layout c.in_ok-front.front (c.in_ok-layout.ensures.given ∙ ap (λ (t : SetUp). t.geometry) (sym c.setup.view_is)) c.in_ok-front.ensures c.in_ok-closed.closed.items (c.in_ok-closed.ensures.items_if_clones_equal (λ y e. e) ∙ ap (λ (n : ℕ). replicate n false) c.from.ensures)
+    made-is c.args.setup s c.setup.view_is c.in_ok-layout.layout c.in_ok-front.front (c.in_ok-layout.ensures.given ∙ ap (λ (t : SetUp). t.geometry) (sym c.setup.view_is)) c.in_ok-front.ensures c.in_ok-closed.closed.items (c.in_ok-closed.ensures.items_if_clones_equal (λ y e. e) ∙ ap (λ (n : ℕ). replicate n false) c.from.ensures)
