@@ -31,6 +31,7 @@ mod due;
 mod failing;
 mod guests;
 mod host_mediator;
+mod interrupts;
 mod rings;
 
 pub use closing::Closed;
