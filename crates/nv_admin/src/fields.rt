@@ -39,7 +39,11 @@ pub(crate) fn completes_to(sqe: &Sqe) -> u16
 pub(crate) fn vector(sqe: &Sqe) -> Option<u16>
     ensures { result ≡ vector_of sqe.now }
 {
-    if enables_interrupts(sqe) { Some(high_half(sqe.cdw11())) } else { None }
+    if enables_interrupts(sqe) {
+        Some(high_half(sqe.cdw11()))
+    } else {
+        None
+    }
 }
 
 /// CNS of Identify, and FID of Set Features and Get Features: CDW10 bits 7:0.

@@ -38,13 +38,7 @@ impl Vctl {
     /// `base` on, and with this interrupt vector, where its interrupts are enabled. The queues lie in the map as before, if its slots do.
     ///
     /// The caller knows that the controller is ready, and that a queue may have so many slots (`nv_ring::Ring::fits`).
-    pub fn create_completion_queue(
-        &mut self,
-        queue: u16,
-        base: u64,
-        size: u16,
-        vector: Option<u16>,
-    )
+    pub fn create_completion_queue(&mut self, queue: u16, base: u64, size: u16, vector: Option<u16>)
         requires ready { is_ready self.old ≡ true }
         requires number { IsIoQueue queue }
         requires size { FitsRing size }
