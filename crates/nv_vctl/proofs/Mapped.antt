@@ -1,5 +1,5 @@
 -- A list whose elements are what a function gives for those of another list.
-use Rattle.std.proofs.Common.{◌≡◌, ℕ, zero, suc, ◌<◌, List, [], ◌∷◌, length, map, slice_index_or, arith, refl, ap, ◌∙◌}
+use Rattle.std.proofs.Common.{◌≡◌, ℕ, suc, ◌<◌, List, [], ◌∷◌, length, map, slice_index_or, arith, refl, ap, ◌∙◌}
 
 pub mapped : {A C B : Type 0} (now : A → C) (f : C → B) (xs : List A) (ys : List B) (e : B) → length ys ≡ length xs
     → ((i : ℕ) (d : A) → i < length xs → slice_index_or ys i e ≡ f (now (slice_index_or xs i d))) → ys ≡ map f (map now xs)

@@ -1,4 +1,4 @@
-use Rattle.std.proofs.Common.{◌≡◌, ◌/◌, ◌^◌, ◌==◌, ap}
+use Rattle.std.proofs.Common.{◌/◌, ◌^◌, ◌==◌, ap}
 use Rattle.std.proofs.lemmas.Nat.{and_mask}
 use Rattle.nv_entry.specs.Layout.{bits}
 use Rattle.nv_admin.proofs.fields.enables_interrupts.Goals as goal

@@ -1,4 +1,4 @@
-use Rattle.std.proofs.Common.{◌≡◌, ℕ, List, Option, None, length, map, rules, arith, sym, ap, ◌∙◌, Bor}
+use Rattle.std.proofs.Common.{◌≡◌, List, Option, None, length, map, rules, arith, sym, ap, ◌∙◌, Bor}
 use Rattle.std.proofs.lemmas.List.{length-map}
 use Rattle.nv_model.specs.Controller.{pending}
 use Rattle.nv_model.specs.Queue.{CompletionQueue, raised}
