@@ -3,7 +3,7 @@
 ghost use Rattle.std.specs.Prelude.{◌≡◌, ◌==◌, not};
 ghost use Rattle.nv_entry.specs.Layout.{bits};
 ghost use Rattle.nv_entry.specs.Submission.{cdw_of};
-ghost use Rattle.nv_model.specs.Admin.{completion_id, contiguous, qid, qsize, selector};
+ghost use Rattle.nv_model.specs.Admin.{completion_id, contiguous, interrupts_enabled, qid, qsize, selector, vector_of};
 
 use nv_entry::Sqe;
 
@@ -35,6 +35,17 @@ pub(crate) fn completes_to(sqe: &Sqe) -> u16
     high_half(sqe.cdw11())
 }
 
+/// The interrupt vector of a new completion queue, CDW11 bits 31:16, where IEN, CDW11 bit 1, enables its interrupts.
+pub(crate) fn vector(sqe: &Sqe) -> Option<u16>
+    ensures { result ≡ vector_of sqe.now }
+{
+    if enables_interrupts(sqe) {
+        Some(high_half(sqe.cdw11()))
+    } else {
+        None
+    }
+}
+
 /// CNS of Identify, and FID of Set Features and Get Features: CDW10 bits 7:0.
 pub(crate) fn selector(sqe: &Sqe) -> u8
     ensures { result ≡ selector sqe.now }
@@ -48,6 +59,13 @@ pub(crate) fn queues_asked(sqe: &Sqe) -> (u16, u16)
     ensures completion { result.1 ≡ bits (cdw_of 11 sqe.now) 31 16 }
 {
     (low_half(sqe.cdw11()), high_half(sqe.cdw11()))
+}
+
+// IEN, whether the interrupts of a new completion queue are enabled: CDW11 bit 1.
+fn enables_interrupts(sqe: &Sqe) -> bool
+    ensures { result ≡ (interrupts_enabled sqe.now == 1) }
+{
+    sqe.cdw11() >> 1 & 1 == 1
 }
 
 // Bits 15:0 of a dword.

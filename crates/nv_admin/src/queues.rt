@@ -39,7 +39,7 @@ pub(crate) fn create_submission_queue(
     Ok(Outcome::Done { dw0: 0 })
 }
 
-/// Create I/O Completion Queue. Its interrupt fields are ignored.
+/// Create I/O Completion Queue. Its interrupt fields are kept with the queue, and nothing is refused because of them.
 pub(crate) fn create_completion_queue(
     vctl: &mut Vctl,
     sqe: &Sqe,
@@ -53,7 +53,7 @@ pub(crate) fn create_completion_queue(
     let queue = fields::queue(sqe);
     let size = check_new_queue(sqe, vctl.has_completion_queue(queue))?;
     check_place(sqe, CQE_SIZE, size, map)?;
-    vctl.create_completion_queue(queue, sqe.prp1(), size);
+    vctl.create_completion_queue(queue, sqe.prp1(), size, fields::vector(sqe));
     Ok(Outcome::Done { dw0: 0 })
 }
 

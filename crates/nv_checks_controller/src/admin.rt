@@ -4,4 +4,5 @@ mod bring_up;
 mod command;
 mod deletions;
 mod identify;
+mod interrupts;
 mod refusals;

@@ -34,6 +34,7 @@ mod front;
 mod front_due;
 mod handing;
 mod holding;
+mod interrupts;
 mod jobs;
 mod keeping;
 mod lane;

@@ -108,7 +108,7 @@ controller_at_end =
       acq_low = 0x1000;
       ready = true;
       submission = Some (record (new_submission 0 8 0) { head = 4; tail = 4 }) ∷ replicate 8 None;
-      completion_queues = Some (record (new_completion 0x1000 8) { head = 2; tail = 4 }) ∷ replicate 8 None;
+      completion_queues = Some (record (new_completion 0x1000 8 (Some 0)) { head = 2; tail = 4 }) ∷ replicate 8 None;
     }
 
 -- ---- on the way

@@ -49,7 +49,7 @@ pub fn admin_steps()
     ensures none_where_it_is_not_ready { admin (λ _. true) 64 (deleting false) (λ _. 0) ≡ NothingToDo }
     ensures none_where_commands_are_taken { admin (λ _. true) 64 (record (deleting true) { taken = slice_set opening.taken 1 1 }) (λ _. 0) ≡ NothingToDo }
     ensures none_where_the_completion_queue_is_full { admin (λ _. true) 64 (record (deleting true) {
-      completion_queues = slice_set opening.completion_queues 0 (Some (record { base = 0x11000; size = 2; head = 0; tail = 1; phase = true }));
+      completion_queues = slice_set opening.completion_queues 0 (Some (record { base = 0x11000; size = 2; head = 0; tail = 1; phase = true; vector = Some 0 }));
     }) (λ _. 0) ≡ QueueFull }
 {}
 

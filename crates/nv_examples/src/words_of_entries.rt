@@ -96,7 +96,7 @@ pub fn registers()
 pub fn admins()
     ensures fields { map (λ field. field (range_with_len 0x80 64)) (qid ∷ qsize ∷ contiguous ∷ completion_id ∷ selector ∷ []) ≡ 0xa9a8 ∷ 0xabaa ∷ 0 ∷ 0xafae ∷ 0xa8 ∷ [] }
     ensures an_odd_byte { contiguous (range_with_len 0x81 64) ≡ 1 }
-    ensures completion_queues { map (λ number. first_failing (completes_to_checks (with_completion opening 8 (Some (new_completion 0 2))) (replicate 44 0 ++ 1 ∷ 0 ∷ number ∷ 0 ∷ replicate 16 0)))
+    ensures completion_queues { map (λ number. first_failing (completes_to_checks (with_completion opening 8 (Some (new_completion 0 2 None))) (replicate 44 0 ++ 1 ∷ 0 ∷ number ∷ 0 ∷ replicate 16 0)))
         (0 ∷ 7 ∷ 8 ∷ 9 ∷ []) ≡ Some code.InvalidQueueIdentifier ∷ Some code.CompletionQueueInvalid ∷ None ∷ Some code.InvalidQueueIdentifier ∷ [] }
     ensures a_large_namespace { map (λ at. slice_range (namespace_structure 0x8877665544332211) at (at + 8)) (0 ∷ 8 ∷ 16 ∷ [])
         ≡ replicate 3 (0x11 ∷ 0x22 ∷ 0x33 ∷ 0x44 ∷ 0x55 ∷ 0x66 ∷ 0x77 ∷ 0x88 ∷ []) }

@@ -39,8 +39,8 @@ serving = record {
       Some (record { base = 0; size = 3; head = 2; tail = 2; completes_to = 0; closing = false })
       ∷ Some (record { base = 0; size = 2; head = 1; tail = 1; completes_to = 1; closing = false }) ∷ replicate 7 None;
   completion_queues =
-      Some (record { base = 0; size = 3; head = 0; tail = 2; phase = true })
-      ∷ Some (record { base = 0; size = 2; head = 0; tail = 0; phase = true }) ∷ replicate 7 None;
+      Some (record { base = 0; size = 3; head = 0; tail = 2; phase = true; vector = Some 0 })
+      ∷ Some (record { base = 0; size = 2; head = 0; tail = 0; phase = true; vector = None }) ∷ replicate 7 None;
   taken = 0 ∷ 1 ∷ replicate 7 0;
   held_requests = 0;
   deletion = None;

@@ -9,7 +9,7 @@
 //! [`HostMediator::take`], [`HostMediator::list`], [`HostMediator::submit`] and [`HostMediator::submit_plan`], [`HostMediator::give_up`],
 //! [`HostMediator::reap`] and [`HostMediator::post`]. [`HostMediator::due`] reports what there is to do, and [`HostMediator::tail`],
 //! [`HostMediator::head`], [`HostMediator::submission_ring`] and [`HostMediator::completion_ring`] what the host needs for the drive's queues and
-//! doorbells.
+//! doorbells. [`HostMediator::pending`] has the interrupt vectors that the host is to raise in a guest.
 //!
 //! What a call comes to is said by logs (`specs/Served`): of each log that leads to the mediator and the memory as they are, the call is the next
 //! event. Such a log has the calls with their replies, and what the drive did between them. Nobody has to keep one. [`HostMediator::promise`] does
@@ -31,6 +31,7 @@ mod due;
 mod failing;
 mod guests;
 mod host_mediator;
+mod interrupts;
 mod rings;
 
 pub use closing::Closed;

@@ -21,7 +21,7 @@ use Rattle.nv_model.specs.Admin.{AdminStep, AdminEffect, Hidden, NothingToDo, Qu
 use Rattle.nv_model.specs.Admin.{admin_ready, checked, completes_to_checks, contiguous, completion_id, create_completion, create_submission}
 use Rattle.nv_model.specs.Admin.{delete_completion, delete_found, delete_submission, done_by, done_with_opcode, finish_deletion}
 use Rattle.nv_model.specs.Admin.{front_command, identified, identify_by, identify_reading, is_queue_full, new_queue_checks, number_of_queues}
-use Rattle.nv_model.specs.Admin.{place_checks, qid, qsize, selector, shown, stepped, with_answer, with_completion_posted, answered}
+use Rattle.nv_model.specs.Admin.{place_checks, qid, qsize, selector, shown, stepped, vector_of, with_answer, with_completion_posted, answered}
 use Rattle.nv_model.specs.Laws.{QueuesHave}
 use Rattle.nv_model.proofs.Endings.{first_failing-none, not-false}
 use Rattle.nv_model.proofs.QueuesKept.{HaveBehind, IsKept, QueuesHave-same, QueuesHave-with_completion, QueuesHave-with_submission, by_test, post-kept, submission_queue-has, took-kept}
@@ -102,8 +102,8 @@ module _ (mapped : ℕ → Bool) (P : SubmissionQueue → Type 0) (Q : Completio
       checked-kept _ c memory _ order (λ fine.
       let size = new_queue_checks-size (is_some (completion_queue c (qid entry))) entry (place_checks mapped cqe_size entry) fine in
       let there = place_checks-mapped mapped cqe_size entry size.1 in
-      QueuesHave-with_completion mapped P Q closed c (qid entry) (Some (new_completion (prp1_of entry) (qsize entry + 1))) order
-      (closed.new_completion (prp1_of entry) (qsize entry + 1) size.0 there))
+      QueuesHave-with_completion mapped P Q closed c (qid entry) (Some (new_completion (prp1_of entry) (qsize entry + 1) (vector_of entry))) order
+      (closed.new_completion (prp1_of entry) (qsize entry + 1) (vector_of entry) size.0 there))
 
   delete_completion-kept : (entry : List ℕ) (c : Controller) (memory : ℕ → ℕ) → QueuesHave P Q c
       → DoneHas P Q (delete_completion entry c memory)

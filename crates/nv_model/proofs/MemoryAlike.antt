@@ -25,7 +25,7 @@ use Rattle.nv_model.specs.Admin.{AdminStep, AdminEffect, Hidden, NothingToDo, Qu
 use Rattle.nv_model.specs.Admin.{admin_ready, answered, checked, completes_to_checks, completion_id, create_completion, create_submission}
 use Rattle.nv_model.specs.Admin.{delete_completion, delete_found, done_by, done_with_opcode, finish_deletion, front_command, has_io_queue}
 use Rattle.nv_model.specs.Admin.{identified, identify_by, identify_reading, is_queue_full, new_queue_checks, number_of_queues, place_checks, qid}
-use Rattle.nv_model.specs.Admin.{qsize, queues_allocated, selector, set_features, shown, stepped, uses, with_answer, with_completion_posted}
+use Rattle.nv_model.specs.Admin.{qsize, queues_allocated, selector, set_features, shown, stepped, uses, vector_of, with_answer, with_completion_posted}
 use Rattle.nv_model.specs.Limits.{most_requests}
 use Rattle.nv_model.specs.Laws.{AgreeAt, IsMappedPlace, IsSubmissionInPlace, IsCompletionInPlace, QueuesInPlace}
 use Rattle.nv_model.proofs.Agreeing.{bytes_from-agree, in_memory-agree}
@@ -152,7 +152,7 @@ module _ (mapped : ℕ → Bool) (memory other : ℕ → ℕ) (agree : (addr : �
       → DoneAlike mapped (create_completion mapped entry c memory) (create_completion mapped entry c other)
   create_completion-alike entry c =
       checked-alike (first_failing (new_queue_checks (is_some (completion_queue c (qid entry))) entry ++ place_checks mapped cqe_size entry))
-      c (with_completion c (qid entry) (Some (new_completion (prp1_of entry) (qsize entry + 1)))) 0
+      c (with_completion c (qid entry) (Some (new_completion (prp1_of entry) (qsize entry + 1) (vector_of entry)))) 0
 
   delete_completion-alike : (entry : List ℕ) (c : Controller)
       → DoneAlike mapped (delete_completion entry c memory) (delete_completion entry c other)

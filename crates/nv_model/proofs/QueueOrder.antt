@@ -91,7 +91,7 @@ pub IsKept-in_order : (mapped : ℕ → Bool) → IsKept mapped IsSubmissionInOr
 IsKept-in_order mapped =
     record {
       new_submission = λ base size to fits there. let bounds = size_fits-bounds size fits in IsInOrder-new size bounds.0 bounds.1;
-      new_completion = λ base size fits there. let bounds = size_fits-bounds size fits in IsInOrder-new size bounds.0 bounds.1;
+      new_completion = λ base size vector fits there. let bounds = size_fits-bounds size fits in IsInOrder-new size bounds.0 bounds.1;
       front_taken = λ q is. IsInOrder-head q.size q.head q.tail is;
       tail_rung = λ q tail below is. IsInOrder-at q.size q.head q.tail q.head tail is is.head_is_slot below;
       closing = λ q is. is;
@@ -104,7 +104,7 @@ pub IsKept-in_place : (mapped : ℕ → Bool) → IsKept mapped (IsSubmissionInP
 IsKept-in_place mapped =
     record {
       new_submission = λ base size to fits there. let bounds = size_fits-bounds size fits in (IsInOrder-new size bounds.0 bounds.1, there);
-      new_completion = λ base size fits there. let bounds = size_fits-bounds size fits in (IsInOrder-new size bounds.0 bounds.1, there);
+      new_completion = λ base size vector fits there. let bounds = size_fits-bounds size fits in (IsInOrder-new size bounds.0 bounds.1, there);
       front_taken = λ q is. (IsInOrder-head q.size q.head q.tail is.0, is.1);
       tail_rung = λ q tail below is. (IsInOrder-at q.size q.head q.tail q.head tail is.0 is.0.head_is_slot below, is.1);
       closing = λ q is. is;

@@ -46,8 +46,8 @@ queue_of-set (x ∷ xs) (suc y) q new found = queue_of-set xs y q new found
 pub record IsKept (mapped : ℕ → Bool) (P : SubmissionQueue → Type 0) (Q : CompletionQueue → Type 0) : Type 0 where
   pub new_submission : (base size to : ℕ) → size_fits size ≡ true → everywhere mapped base (sqe_size * size) ≡ true
       → P (new_submission base size to)
-  pub new_completion : (base size : ℕ) → size_fits size ≡ true → everywhere mapped base (cqe_size * size) ≡ true
-      → Q (new_completion base size)
+  pub new_completion : (base size : ℕ) (vector : Option ℕ) → size_fits size ≡ true → everywhere mapped base (cqe_size * size) ≡ true
+      → Q (new_completion base size vector)
   pub front_taken : (q : SubmissionQueue) → P q → P (front_taken q)
   pub tail_rung : (q : SubmissionQueue) (tail : ℕ) → tail < q.size → P q → P (record q { tail = tail })
   pub closing : (q : SubmissionQueue) → P q → P (record q { closing = true })
@@ -106,7 +106,7 @@ module _ (mapped : ℕ → Bool) (P : SubmissionQueue → Type 0) (Q : Completio
       record {
         submission_queues = All-set (λ o. IfSome o P) c.submission 0 _ (closed.new_submission (admin_submission_base c) (admin_submission_size c) 0 all.0 submission_there.1) order.submission_queues;
         completion_queues = All-set (λ o. IfSome o Q) c.completion_queues 0 _
-            (closed.new_completion (admin_completion_base c) (admin_completion_size c) all.1 completion_there.1) order.completion_queues;
+            (closed.new_completion (admin_completion_base c) (admin_completion_size c) (Some 0) all.1 completion_there.1) order.completion_queues;
       })
       (λ can_not. QueuesHave-same c _ order refl refl)
 

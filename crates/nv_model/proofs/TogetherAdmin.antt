@@ -21,7 +21,7 @@ use Rattle.nv_model.specs.Admin.{AdminStep, AdminEffect, Hidden, NothingToDo, Qu
 use Rattle.nv_model.specs.Admin.{admin_ready, answered, checked, completes_to_checks, completion_id, contiguous, create_completion}
 use Rattle.nv_model.specs.Admin.{create_submission, delete_completion, delete_found, delete_submission, done_by, done_with_opcode, finish_deletion}
 use Rattle.nv_model.specs.Admin.{front_command, identified, identify_by, identify_reading, is_queue_full, new_queue_checks}
-use Rattle.nv_model.specs.Admin.{number_of_queues, place_checks, qid, qsize, selector, shown, stepped, uses, with_answer, with_completion_posted}
+use Rattle.nv_model.specs.Admin.{number_of_queues, place_checks, qid, qsize, selector, shown, stepped, uses, vector_of, with_answer, with_completion_posted}
 use Rattle.nv_model.specs.Running.{GoTogether, IsTogether}
 use Rattle.nv_model.proofs.Endings.{and-true, first_failing-none, not-false}
 use Rattle.nv_model.proofs.QueuesKept.{by_test}
@@ -105,7 +105,7 @@ module _ (mapped : ℕ → Bool) (entry : List ℕ) (c : Controller) (memory : �
   create_completion-together =
       checked-together _ _ (λ fine.
       record {
-        together = completion-put (is_enabled c) c.ready c.submission c.completion_queues c.taken c.deletion on (qid entry) (new_completion (prp1_of entry) (qsize entry + 1)) g;
+        together = completion-put (is_enabled c) c.ready c.submission c.completion_queues c.taken c.deletion on (qid entry) (new_completion (prp1_of entry) (qsize entry + 1) (vector_of entry)) g;
         same = refl;
         on = on;
       })

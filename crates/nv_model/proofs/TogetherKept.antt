@@ -129,7 +129,7 @@ cc_written-together mapped false true c value is g =
     (λ none. by_test (IsBehind c) (can_enable mapped (record c { cc = value })) _ _
     (λ _.
     let sq = new_submission (admin_submission_base c) (admin_submission_size c) 0 in
-    let cq = new_completion (admin_completion_base c) (admin_completion_size c) in (
+    let cq = new_completion (admin_completion_base c) (admin_completion_size c) (Some 0) in (
       subst (λ (e : Bool). GoTogether e true (set c.submission 0 (Some sq)) (set c.completion_queues 0 (Some cq)) c.taken c.deletion) (sym is)
           (admin-together c sq cq refl none g),
       refl,

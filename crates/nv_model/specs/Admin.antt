@@ -49,6 +49,18 @@ contiguous entry = bits (cdw_of 11 entry) 0 0
 abbrev pub completion_id : List ℕ → ℕ
 completion_id entry = bits (cdw_of 11 entry) 31 16
 
+-- IEN, whether the interrupts of a new completion queue are enabled: CDW11 bit 1
+abbrev pub interrupts_enabled : List ℕ → ℕ
+interrupts_enabled entry = bits (cdw_of 11 entry) 1 1
+
+-- IV, the interrupt vector of a new completion queue: CDW11 bits 31:16
+abbrev pub interrupt_vector : List ℕ → ℕ
+interrupt_vector entry = bits (cdw_of 11 entry) 31 16
+
+-- this vector, where its interrupts are enabled
+abbrev pub vector_of : List ℕ → Option ℕ
+vector_of entry = if interrupts_enabled entry == 1 then Some (interrupt_vector entry) else None
+
 -- CNS of Identify, and the feature of Set and Get Features: CDW10 bits 7:0
 abbrev pub selector : List ℕ → ℕ
 selector entry = bits (cdw_of 10 entry) 7 0
@@ -110,7 +122,7 @@ create_completion mapped entry c memory =
     (first_failing (
     new_queue_checks (is_some (completion_queue c (qid entry))) entry ++ place_checks mapped cqe_size entry))
     c memory
-    (answered 0 (with_completion c (qid entry) (Some (new_completion (prp1_of entry) (qsize entry + 1)))) memory)
+    (answered 0 (with_completion c (qid entry) (Some (new_completion (prp1_of entry) (qsize entry + 1) (vector_of entry)))) memory)
 
 -- whether a submission queue uses that completion queue
 abbrev pub uses : ℕ → Option SubmissionQueue → Bool

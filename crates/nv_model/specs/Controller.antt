@@ -1,13 +1,13 @@
 -- A controller's registers and queues: Base Specification 2.0, "Controller Properties" (CAP, VS, CC, CSTS, AQA, ASQ, ACQ), "Controller
 -- Initialization"; doorbells: NVMe over PCIe Transport Specification 1.0, "Doorbell". Registers are read and written in dwords; what
 -- a write that is not allowed does, and which doorbell values are taken, is the project's own (profile).
-use Rattle.std.specs.Prelude.{ℕ, ◌+◌, ◌-◌, ◌*◌, ◌/◌, ◌%◌, ◌^◌, Bool, true, false, not, ◌&&◌, ◌==◌, nat_le, nat_lt, if◌then◌else◌, List, sum, slice_index}
+use Rattle.std.specs.Prelude.{ℕ, ◌+◌, ◌-◌, ◌*◌, ◌/◌, ◌%◌, ◌^◌, Bool, true, false, not, ◌&&◌, ◌==◌, nat_le, nat_lt, if◌then◌else◌, List, map, sum, slice_index}
 use Rattle.std.specs.Prelude.{slice_get, slice_set, replicate, Option, Some, None}
 use Rattle.nv_entry.specs.Layout.{bits}
 use Rattle.nv_entry.specs.Status.{StatusField, bit}
 use Rattle.nv_entry.specs.Completion.{completion}
 use Rattle.nv_mem.specs.GuestMap.{everywhere}
-use Rattle.nv_model.specs.Queue.{SubmissionQueue, CompletionQueue, ahead, cqe_size, front_taken, is_empty, is_full, new_completion, new_submission, after_post, sqe_size}
+use Rattle.nv_model.specs.Queue.{SubmissionQueue, CompletionQueue, ahead, cqe_size, front_taken, is_empty, is_full, new_completion, new_submission, after_post, raised, sqe_size}
 use Rattle.nv_model.specs.Limits.{last_queue, most_slots, page}
 
 -- a deletion of an I/O submission queue that waits for the queue's taken commands
@@ -149,14 +149,14 @@ can_enable mapped c =
     && base_fits mapped (admin_submission_base c) (sqe_size * admin_submission_size c)
     && base_fits mapped (admin_completion_base c) (cqe_size * admin_completion_size c)
 
--- EN from 0 to 1: the admin queues are made and RDY becomes 1, or CFS does
+-- EN from 0 to 1: the admin queues are made and RDY becomes 1, or CFS does; the admin completion queue uses vector 0
 abbrev pub enabled : (ℕ → Bool) → Controller → Controller
 enabled mapped c =
     if can_enable mapped c then
     record c {
       ready = true;
       submission = slice_set c.submission 0 (Some (new_submission (admin_submission_base c) (admin_submission_size c) 0));
-      completion_queues = slice_set c.completion_queues 0 (Some (new_completion (admin_completion_base c) (admin_completion_size c)));
+      completion_queues = slice_set c.completion_queues 0 (Some (new_completion (admin_completion_base c) (admin_completion_size c) (Some 0)));
     }
     else record c { failed = true }
 
@@ -277,3 +277,9 @@ post c y dw0 cid st = post_from (submission_queue c y) c y dw0 cid st
 -- a command of queue y runs out after a reset: no completion; RDY falls with the last one
 unfoldable pub ran_out : Controller → ℕ → Controller
 ran_out c y = record c { taken = taken_less c y; ready = c.ready && not (sum (taken_less c y) == 0) }
+
+-- ---- interrupts
+
+-- the vectors that are pending, by the number of the completion queue that raises them
+abbrev pub pending : Controller → List (Option ℕ)
+pending c = map raised c.completion_queues

@@ -1,5 +1,5 @@
 -- Queues: Base Specification 2.0, "Memory-based Transport Queue Model" (usage, empty and full queues), "Phase Tag"
-use Rattle.std.specs.Prelude.{ℕ, ◌+◌, ◌-◌, ◌%◌, Bool, true, false, not, ◌==◌, if◌then◌else◌}
+use Rattle.std.specs.Prelude.{ℕ, ◌+◌, ◌-◌, ◌%◌, Bool, true, false, not, ◌==◌, if◌then◌else◌, Option, None, Some}
 
 -- a submission queue: where its slots lie and how many, its head and tail, the completion queue that it uses, and whether it is
 -- being deleted
@@ -11,13 +11,15 @@ pub record SubmissionQueue : Type 0 where
   pub completes_to : ℕ
   pub closing : Bool
 
--- a completion queue: where its slots lie and how many, its head and tail, and the phase tag that this pass writes
+-- a completion queue: where its slots lie and how many, its head and tail, the phase tag that this pass writes, and the interrupt
+-- vector of its completions, where its interrupts are enabled
 pub record CompletionQueue : Type 0 where
   pub base : ℕ
   pub size : ℕ
   pub head : ℕ
   pub tail : ℕ
   pub phase : Bool
+  pub vector : Option ℕ
 
 -- the size of a submission queue entry, and of a completion queue entry
 abbrev pub sqe_size : ℕ
@@ -48,8 +50,8 @@ new_submission base size completes_to =
     record { base = base; size = size; head = 0; tail = 0; completes_to = completes_to; closing = false }
 
 -- a new completion queue is empty, and its first pass writes phase tag 1
-abbrev pub new_completion : (base size : ℕ) → CompletionQueue
-new_completion base size = record { base = base; size = size; head = 0; tail = 0; phase = true }
+abbrev pub new_completion : (base size : ℕ) → (vector : Option ℕ) → CompletionQueue
+new_completion base size vector = record { base = base; size = size; head = 0; tail = 0; phase = true; vector = vector }
 
 -- how many entries are not taken, of those for which the doorbell was rung
 abbrev pub waiting : SubmissionQueue → ℕ
@@ -69,3 +71,8 @@ after_post q = record q {
   tail = next_slot q.size q.tail;
   phase = (if next_slot q.size q.tail == 0 then not q.phase else q.phase);
 }
+
+-- the vector that a completion queue raises: that of its completions, where some are not acknowledged and its interrupts are enabled
+abbrev pub raised : Option CompletionQueue → Option ℕ
+raised None = None
+raised (Some q) = if is_empty q.head q.tail then None else q.vector

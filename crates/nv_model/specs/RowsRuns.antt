@@ -250,6 +250,13 @@ shared_completion_queue =
     done_third second_submission_queue ++ store 0x13000 first_example ∷ store 0x14000 (flush_of 5) ∷ ring 0x1008 1 ∷ ring 0x1010 1
     ∷ TakeStep 1 0 ∷ TakeStep 2 1 ∷ carried 1 ++ JudgeStep 1 ∷ MoveStep 1 0 ∷ PostStep 1 ∷ PostStep 0 ∷ []
 
+-- queue pair 2 with two slots, whose completion queue has vector 5, and a Flush with identifier 5 by it, which is completed
+abbrev pub vector_five : List Step
+vector_five =
+    done_third (admin_entry 0x05 3 0 0x14000 0 0x00010002 0x00050003)
+    ++ store 0x100c0 (new_submission_queue 2 1 1 2 0x15000) ∷ ring 0x1000 4 ∷ AdminQueueStep
+    ∷ store 0x15000 (flush_of 5) ∷ ring 0x1010 1 ∷ TakeStep 2 1 ∷ JudgeStep 1 ∷ MoveStep 1 0 ∷ PostStep 1 ∷ []
+
 -- ---- footprints
 
 -- the entry of a taken command, where one is

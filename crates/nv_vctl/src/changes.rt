@@ -35,18 +35,18 @@ impl Vctl {
     }
 
     /// An I/O completion queue of this number, 1 to [`nv_model::limits::LAST_QUEUE`], is made: empty, with `size` slots from guest address
-    /// `base` on. The queues lie in the map as before, if its slots do.
+    /// `base` on, and with this interrupt vector, where its interrupts are enabled. The queues lie in the map as before, if its slots do.
     ///
     /// The caller knows that the controller is ready, and that a queue may have so many slots (`nv_ring::Ring::fits`).
-    pub fn create_completion_queue(&mut self, queue: u16, base: u64, size: u16)
+    pub fn create_completion_queue(&mut self, queue: u16, base: u64, size: u16, vector: Option<u16>)
         requires ready { is_ready self.old ≡ true }
         requires number { IsIoQueue queue }
         requires size { FitsRing size }
-        ensures state { self.new ≡ with_completion self.old queue (Some (new_completion base size)) }
+        ensures state { self.new ≡ with_completion self.old queue (Some (new_completion base size vector)) }
         ensures in_place { (test : ℕ → Bool) → QueuesInPlace test self.old
             → everywhere test base (cqe_size * size) ≡ true → QueuesInPlace test self.new }
     {
-        let made = CompletionQueue::new(base, size);
+        let made = CompletionQueue::new(base, size, vector);
         self.completion[usize::from(queue)] = Some(made);
     }
 

@@ -4,8 +4,9 @@
 //! A [`Vctl`] is what a guest sees of an NVMe controller of its own. The guest acts on it by [`Vctl::reg_read`], [`Vctl::reg_write`] and
 //! [`Vctl::doorbell`]. The code that serves the guest reads the command that comes next ([`Vctl::peek_sqe`]), takes it ([`Vctl::took`]), and posts
 //! its completion ([`Vctl::post_cqe`]) or, where the guest has reset the controller meanwhile, lets it run out ([`Vctl::ran_out`]). What admin
-//! commands do to queues has separate calls. Each call is the definition of `nv_model/specs/Controller` or `Admin`, word for word. Entries are in
-//! the guest's memory, which is a map's part of the host. Nothing here allocates memory.
+//! commands do to queues has separate calls. Which interrupts the guest is to get, [`Vctl::pending`] reports by the vectors of its completion queues.
+//! Each call is the definition of `nv_model/specs/Controller` or `Admin`, word for word. Entries are in the guest's memory, which is a map's part of
+//! the host. Nothing here allocates memory.
 //!
 //! Queues stay where they were mapped: [`Vctl::lies_in`] tests that all of them are in the guest's map, at the start there are none, and every call
 //! preserves it. The caller that makes an I/O queue ([`Vctl::create_submission_queue`], [`Vctl::create_completion_queue`]) is responsible for its

@@ -2,7 +2,7 @@
 
 ghost use Rattle.std.specs.Prelude.{◌≡◌, ◌+◌, ◌*◌, ◌<◌, ◌≤◌, ◌^◌, ◌&&◌, ◌↔◌, IsTrue, if◌then◌else◌, Some, is_some, nat_le, nat_lt, not, true, false};
 ghost use Rattle.nv_model.specs.Controller.{front_of};
-ghost use Rattle.nv_model.specs.Queue.{after_post, ahead, cqe_size, front_taken, is_empty, is_full, new_completion, new_submission, sqe_size, unacknowledged};
+ghost use Rattle.nv_model.specs.Queue.{after_post, ahead, cqe_size, front_taken, is_empty, is_full, new_completion, new_submission, raised, sqe_size, unacknowledged};
 ghost use Rattle.nv_mem.specs.GuestMap.{mapped};
 ghost use Rattle.nv_model.specs.Laws.{IsCompletionInPlace, IsInOrder, IsSubmissionInPlace};
 ghost use Rattle.nv_ring.specs.Ring.{FitsRing};
@@ -44,12 +44,14 @@ impl Model for SubmissionQueue {
     } };
 }
 
-/// A completion queue: where its first slot is in the guest's memory, its positions, and the phase tag of its pass.
+/// A completion queue: where its first slot is in the guest's memory, its positions, the phase tag of its pass, and the interrupt vector
+/// of its completions, where its interrupts are enabled.
 #[derive(Clone, Copy, Debug, PartialEq, Eq)]
 pub(crate) struct CompletionQueue {
     pub(crate) base: u64,
     pub(crate) ring: Ring,
     pub(crate) phase: Phase,
+    pub(crate) vector: Option<u16>,
 }
 
 impl Model for CompletionQueue {
@@ -57,12 +59,20 @@ impl Model for CompletionQueue {
 
     ghost Value = { Queue };
 
-    ghost view = { λ q. record { base = q.base; size = q.ring.size; head = q.ring.head; tail = q.ring.tail; phase = q.phase } };
+    ghost view = { λ q. record {
+      base = q.base;
+      size = q.ring.size;
+      head = q.ring.head;
+      tail = q.ring.tail;
+      phase = q.phase;
+      vector = q.vector;
+    } };
 
     ghost inverse = { λ q. record {
       base = q.base;
       ring = record { size = q.size; head = q.head; tail = q.tail };
       phase = q.phase;
+      vector = q.vector;
     } };
 }
 
@@ -133,14 +143,15 @@ impl SubmissionQueue {
 
 impl CompletionQueue {
     /// An empty queue of `size` slots, whose first pass writes phase tag 1.
-    pub(crate) fn new(base: u64, size: u16) -> Self
+    pub(crate) fn new(base: u64, size: u16, vector: Option<u16>) -> Self
         requires { FitsRing size }
-        ensures { result ≡ new_completion base size }
+        ensures { result ≡ new_completion base size vector }
     {
         CompletionQueue {
             base,
             ring: Ring::new(size),
             phase: Phase::new(),
+            vector,
         }
     }
 
@@ -156,6 +167,13 @@ impl CompletionQueue {
         ensures { result ≡ is_full self.now.size self.now.head self.now.tail }
     {
         !self.ring.room()
+    }
+
+    /// The vector that it raises: that of its completions, where some are not acknowledged and its interrupts are enabled.
+    pub(crate) fn raised(&self) -> Option<u16>
+        ensures { result ≡ raised (Some self.now) }
+    {
+        if self.ring.empty() { None } else { self.vector }
     }
 
     /// The phase tag of this pass.

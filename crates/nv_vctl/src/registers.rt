@@ -149,7 +149,7 @@ impl Vctl {
     {
         if self.can_enable(map) {
             let submission = SubmissionQueue::new(self.asq(), self.asqs(), 0);
-            let completion = CompletionQueue::new(self.acq(), self.acqs());
+            let completion = CompletionQueue::new(self.acq(), self.acqs(), Some(0));
             self.ready = true;
             self.submission[0] = Some(submission);
             self.completion[0] = Some(completion);

@@ -5,10 +5,11 @@ ghost use Rattle.std.specs.Prelude.{IfSome, IsTrue, drop, if◌then◌else◌, n
 ghost use Rattle.std.specs.List.{list_any};
 ghost use Rattle.nv_model.specs.Admin.{has_io_queue, is_queue_full, uses};
 ghost use Rattle.nv_entry.specs.Status.{StatusField};
-ghost use Rattle.nv_model.specs.Controller.{completion_queue, front, is_enabled, is_ready, opening, post, running, submission_queue};
+ghost use Rattle.nv_model.specs.Controller.{completion_queue, front, is_enabled, is_ready, opening, pending, post, running, submission_queue};
 ghost use Rattle.nv_mem.specs.GuestMap.{mapped};
 ghost use Rattle.nv_model.specs.Laws.{IsCompletionInPlace, IsSubmissionInPlace, QueuesInPlace};
 ghost use Rattle.nv_model.specs.Limits.{most_requests};
+ghost use Rattle.nv_model.specs.Queue.{raised};
 ghost use Rattle.nv_vctl.specs.Vctl.{IsWhole, most_taken};
 
 use crate::deletion::Deletion;
@@ -200,6 +201,14 @@ impl Vctl {
         submissions_lie_in(&self.submission, map) && completions_lie_in(&self.completion, map)
     }
 
+    /// The interrupt vectors that are pending, by the number of the completion queue that raises them: one that holds completions which the guest
+    /// has not acknowledged, and whose interrupts are enabled.
+    pub fn pending(&self) -> [Option<u16>; QUEUE_COUNT]
+        ensures { result ≡ pending self.now }
+    {
+        self.completion.each_ref().map(raised)
+    }
+
     /// The submission queue of a number.
     pub(crate) fn submission_queue(&self, queue: usize) -> Option<SubmissionQueue>
         ensures { result ≡ submission_queue self.now queue }
@@ -277,6 +286,16 @@ fn completions_lie_in(queues: &[Option<CompletionQueue>; QUEUE_COUNT], map: &Gue
     ensures { IsTrue result ↔ All (λ o. IfSome o (IsCompletionInPlace (mapped map.now.regions))) queues.now }
 {
     queues.iter().flatten().all(|found| found.lies_in(map))
+}
+
+// The vector that a completion queue raises, if it is there.
+fn raised(found: &Option<CompletionQueue>) -> Option<u16>
+    ensures { result ≡ raised found.now }
+{
+    match found {
+        Some(queue) => queue.raised(),
+        None => None,
+    }
 }
 
 // Whether there is a queue, and it uses that completion queue.

@@ -1,5 +1,5 @@
 -- Worked examples: a host, a disk and two guests that they start from, and what is examined
-use Rattle.std.specs.Prelude.{ℕ, ◌+◌, ◌%◌, Bool, true, false, List, [], ◌∷◌, ◌++◌, map, slice_set, Some}
+use Rattle.std.specs.Prelude.{ℕ, ◌+◌, ◌%◌, Bool, true, false, List, [], ◌∷◌, ◌++◌, map, slice_set, None, Some}
 use Rattle.std.specs.List.{range_with_len}
 use Rattle.nv_entry.specs.Layout.{number_at}
 use Rattle.nv_model.specs.Controller.{Controller, no_queues, opening}
@@ -37,7 +37,7 @@ controller_with slots rung =
       cc = 0x00460001;
       ready = true;
       submission = slice_set no_queues 1 (Some (record (new_submission 0x13000 16 1) { tail = rung }));
-      completion_queues = slice_set no_queues 1 (Some (new_completion 0x12000 slots));
+      completion_queues = slice_set no_queues 1 (Some (new_completion 0x12000 slots None));
     }
 
 -- each block of the disk holds its number in every byte, modulo 256

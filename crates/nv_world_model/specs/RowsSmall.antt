@@ -50,7 +50,7 @@ small_controller =
       ready = true;
       submission =
           Some (record (new_submission 0x100 2 0) { tail = 1 }) ∷ Some (record (new_submission 0x40 2 1) { tail = 1 }) ∷ replicate 7 None;
-      completion_queues = Some (new_completion 0x180 2) ∷ Some (new_completion 0xc0 2) ∷ replicate 7 None;
+      completion_queues = Some (new_completion 0x180 2 (Some 0)) ∷ Some (new_completion 0xc0 2 None) ∷ replicate 7 None;
     }
 
 -- a Write Zeroes of the first block

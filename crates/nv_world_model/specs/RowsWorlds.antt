@@ -100,7 +100,7 @@ brought_up =
       submission =
           Some (record (new_submission 0x10000 32 0) { head = 2; tail = 2 }) ∷ Some (new_submission 0x13000 16 1) ∷ replicate 7 None;
       completion_queues =
-          Some (record (new_completion 0x11000 32) { tail = 2 }) ∷ Some (new_completion 0x12000 16) ∷ replicate 7 None;
+          Some (record (new_completion 0x11000 32 (Some 0)) { tail = 2 }) ∷ Some (new_completion 0x12000 16 None) ∷ replicate 7 None;
     }
 
 -- a world of that set-up and one lane as it is made

@@ -6,6 +6,7 @@ use crate::admin::command::Command;
 use nv_admin::{Admin, admin};
 use nv_entry::StatusCode;
 use nv_mem::{GuestMap, Region};
+use nv_model::limits::QUEUE_COUNT;
 use nv_vctl::{Posted, Vctl};
 use std::alloc::Global;
 use std::marker::Model;
@@ -95,6 +96,21 @@ impl Bench {
         let mut found = [0; 64];
         nv_bounce::load(addr, &self.map, &self.host, &mut found[..len]);
         &found[..len] == bytes
+    }
+
+    /// The dword in memory at a guest address; none where it is not mapped.
+    pub(crate) fn dword(&self, addr: u64) -> Option<u32> {
+        if !self.map.holds(addr, 4) {
+            return None;
+        }
+        let mut bytes = [0; 4];
+        nv_bounce::load(addr, &self.map, &self.host, &mut bytes);
+        Some(u32::from_le_bytes(bytes))
+    }
+
+    /// The interrupt vectors that are pending, by the number of the completion queue.
+    pub(crate) fn pending(&self) -> [Option<u16>; QUEUE_COUNT] {
+        self.vctl.pending()
     }
 
     /// Writes a register, and says whether the write was taken.

@@ -112,7 +112,7 @@ impl Desk {
         if !self.may_change(queue) || !Ring::fits(size) {
             return false;
         }
-        self.vctl.create_completion_queue(queue, base, size);
+        self.vctl.create_completion_queue(queue, base, size, None);
         true
     }
 

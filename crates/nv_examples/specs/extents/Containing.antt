@@ -42,7 +42,7 @@ one_rung =
       cc = 0x00460001;
       ready = true;
       submission = None ∷ Some (record (new_submission 0x3000 2 1) { tail = 1 }) ∷ replicate 7 None;
-      completion_queues = None ∷ Some (new_completion 0x2000 2) ∷ replicate 7 None;
+      completion_queues = None ∷ Some (new_completion 0x2000 2 None) ∷ replicate 7 None;
     }
 
 -- a world of one lane of three tags, of which the neighbour has the last, where the first guest has rung the doorbell for a Write Zeroes of its

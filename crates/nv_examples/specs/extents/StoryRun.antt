@@ -105,7 +105,7 @@ controller_at_end =
           Some (record (new_submission 0 8 0) { head = 2; tail = 2 }) ∷ Some (record (new_submission 0x3000 8 1) { head = 4; tail = 4 })
           ∷ replicate 7 None;
       completion_queues =
-          Some (record (new_completion 0x1000 8) { tail = 2 }) ∷ Some (record (new_completion 0x2000 4) { head = 3; tail = 0; phase = false })
+          Some (record (new_completion 0x1000 8 (Some 0)) { tail = 2 }) ∷ Some (record (new_completion 0x2000 4 None) { head = 3; tail = 0; phase = false })
           ∷ replicate 7 None;
     }
 

@@ -21,7 +21,7 @@ use Rattle.nv_model.proofs.Together.{queue_of-set-has}
 use Rattle.nv_model.specs.Admin.{AdminEffect, Hidden, Shown, Structure, admin_command, answered, checked, completes_to_checks, completion_id}
 use Rattle.nv_model.specs.Admin.{create_completion, create_submission, delete_completion, delete_found, done_by, done_with_opcode, has_io_queue}
 use Rattle.nv_model.specs.Admin.{identified, identify_by, identify_reading, new_queue_checks, number_of_queues, place_checks, qid, qsize}
-use Rattle.nv_model.specs.Admin.{queues_allocated, selector, set_features, shown, uses}
+use Rattle.nv_model.specs.Admin.{queues_allocated, selector, set_features, shown, uses, vector_of}
 use Rattle.nv_model.specs.Controller.{Controller, completion_queue, queue_of, submission_queue, took, took_of, with_completion, with_submission}
 use Rattle.nv_model.specs.Footprint.{Destination, Named, admin_named, identify_named, is_identify}
 use Rattle.nv_model.specs.Limits.{last_queue, most_requests, most_slots}
@@ -162,7 +162,7 @@ module _ (named : List Named) (c : Controller) where
     create_completion-effect : IsEffect named c (λ memory. create_completion shape.mapped entry c memory)
     create_completion-effect =
         let others = place_checks shape.mapped cqe_size entry in
-        let new = new_completion (prp1_of entry) (qsize entry + 1) in
+        let new = new_completion (prp1_of entry) (qsize entry + 1) (vector_of entry) in
         checked-effect (first_failing (new_queue_checks (is_some (completion_queue c (qid entry))) entry ++ others)) (with_completion c (qid entry) (Some new)) 0
         (λ fine. completion-keeps c (qid entry) new (new-free (is_some (completion_queue c (qid entry))) entry others fine).1 completes)
 

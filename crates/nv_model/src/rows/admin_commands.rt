@@ -1,7 +1,9 @@
 //! Admin commands with command identifier 3, done as the third after the bring-up, or as the first: the last dword of the completion.
 
-ghost use Rattle.std.specs.Prelude.{◌≡◌, [], ◌∷◌, ◌++◌, Some, map, replicate};
+ghost use Rattle.std.specs.Prelude.{◌≡◌, [], ◌∷◌, ◌++◌, None, Some, map, replicate, slice_get};
+ghost use Rattle.nv_model.specs.Controller.{queue_of};
 ghost use Rattle.nv_model.specs.Private.{AdminQueueStep, start};
+ghost use Rattle.nv_model.specs.Queue.{new_completion};
 ghost use Rattle.nv_model.specs.Rows.{command, prps};
 ghost use Rattle.nv_model.specs.RowsRuns.{admin_entry, after, bring_up, delete_submission_queue, done_first, done_third, dword_in, first_answer};
 ghost use Rattle.nv_model.specs.RowsRuns.{five_event_requests, new_completion_queue, new_submission_queue, ring, store, third_answer};
@@ -64,6 +66,10 @@ pub fn examples()
         ∷ Some 0x82050003 ∷ Some 0x82050003
         ∷ Some 0x80050003 ∷ Some 0x80270003 ∷ Some 0x80090003
         ∷ Some 0x00010003 ∷ Some 0x00010003 ∷ [] }
+    // A completion queue has the vector of its IV where IEN is 1, and none where it is 0.
+    ensures the_vector_of_a_new_completion_queue { map (λ cdw11. after (done_third (admin_entry 0x05 3 0 0x14000 0 0x00010002 cdw11)) start
+        (λ p. queue_of (slice_get p.controller.completion_queues 2))) (0x12340003 ∷ 0x12340001 ∷ 0x00000003 ∷ [])
+        ≡ map (λ vector. Some (Some (new_completion 0x14000 2 vector))) (Some 0x1234 ∷ None ∷ Some 0 ∷ []) }
     // Those of Create I/O Submission Queue likewise; the completion queue that it names is checked before its place.
     ensures the_checks_of_a_new_submission_queue { map third_answer (
         new_submission_queue 0 0 0 0 0x20001 ∷ new_submission_queue 9 0 0 0 0x20001 ∷ new_submission_queue 1 0 0 0 0x20001

@@ -1,14 +1,15 @@
 //! Runs of the private controller from the start: bring-up, and a command from its doorbell to its completion.
 
-ghost use Rattle.std.specs.Prelude.{◌≡◌, [], ◌∷◌, ◌++◌, ◌==◌, Some, is_some, true, false, replicate};
+ghost use Rattle.std.specs.Prelude.{◌≡◌, [], ◌∷◌, ◌++◌, ◌==◌, None, Some, is_some, map, true, false, replicate};
 ghost use Rattle.std.specs.List.{list_any};
 ghost use Rattle.nv_model.specs.declared.reply.Reply.TheVariants as reply;
+ghost use Rattle.nv_model.specs.Controller.{pending};
 ghost use Rattle.nv_model.specs.Private.{AdminQueueStep, GiveUpStep, JudgeStep, KeepStep, MoveStep, PostStep, RunOutStep, TakeStep, start};
 ghost use Rattle.nv_model.specs.Rows.{command, first_example};
 ghost use Rattle.nv_model.specs.RowsRuns.{admin_entry, after, at_start, block_byte, bring_up, bytes_in, can_run, create_completion_queue};
 ghost use Rattle.nv_model.specs.RowsRuns.{create_submission_queue, deletion_begun, dword_in, first_ended, first_posted, first_taken};
 ghost use Rattle.nv_model.specs.RowsRuns.{five_event_requests, flush_of, load, read_register, replied_to, ring, shared_completion_queue};
-ghost use Rattle.nv_model.specs.RowsRuns.{store, three_ended, two_admin_slots, write_posted_before_read, write_register};
+ghost use Rattle.nv_model.specs.RowsRuns.{store, three_ended, two_admin_slots, vector_five, write_posted_before_read, write_register};
 
 /// The examples of this module, a clause each.
 #[tactic(none)]
@@ -54,6 +55,10 @@ pub fn examples()
     ensures a_read_gets_the_block_as_its_unit_found_it { after write_posted_before_read at_start (bytes_in 0x31fe 3) ≡ Some (5 ∷ 5 ∷ 0 ∷ []) }
     // And the Write's bytes stay in it.
     ensures a_write_that_moves_last_stays { after write_posted_before_read at_start (block_byte 5 511) ≡ Some (0x11, false) }
+    // A vector is pending from a completion on until it is acknowledged: of queue 0 it is 0, queue 1 has none, and queue 2 has 5.
+    ensures the_vectors_that_are_pending { map (λ acknowledged. after (vector_five ++ acknowledged) start (λ p. pending p.controller))
+        ([] ∷ (ring 0x1014 1 ∷ []) ∷ (ring 0x1014 1 ∷ ring 0x1004 3 ∷ []) ∷ (ring 0x1014 1 ∷ ring 0x1004 4 ∷ []) ∷ [])
+        ≡ map (λ rest. Some rest) ((Some 0 ∷ None ∷ Some 5 ∷ replicate 6 None) ∷ (Some 0 ∷ replicate 8 None) ∷ (Some 0 ∷ replicate 8 None) ∷ replicate 9 None ∷ []) }
     // A completion queue of two slots takes one completion.
     ensures a_completion_queue_of_two_slots_takes_one_completion { after (three_ended ++ PostStep 1 ∷ []) start (dword_in 0x1200c) ≡ Some 0x00010001 }
     // Then no other command's is posted.

@@ -72,3 +72,7 @@ returns-clause-the_checks_of_a_new_completion_queue c = refl
 pub returns-clause-the_checks_of_a_new_submission_queue : goal.returns-clause-the_checks_of_a_new_submission_queue
 unfolding number_at dword qword bits bytes_of_dwords completion everywhere bytes_from stored in_memory opening register reg_write doorbell front took post ran_out admin_command admin start step run_of
 returns-clause-the_checks_of_a_new_submission_queue c = refl
+
+pub returns-clause-the_vector_of_a_new_completion_queue : goal.returns-clause-the_vector_of_a_new_completion_queue
+unfolding number_at dword qword bits bytes_of_dwords completion everywhere bytes_from stored in_memory opening register reg_write doorbell front took post ran_out admin_command admin start step run_of
+returns-clause-the_vector_of_a_new_completion_queue c = refl

@@ -196,3 +196,8 @@ pub returns-clause-a_reset_drops_the_held_requests : goal.returns-clause-a_reset
 unfolding number_at dword qword bits bytes_of_dwords completion everywhere addresses bytes_from stored gathered scattered in_memory and_then read_array read_sgl
     move_units judge opening register reg_write doorbell front took post ran_out admin_command admin start differs step run_of
 returns-clause-a_reset_drops_the_held_requests c = refl
+
+pub returns-clause-the_vectors_that_are_pending : goal.returns-clause-the_vectors_that_are_pending
+unfolding number_at dword qword bits bytes_of_dwords completion everywhere addresses bytes_from stored gathered scattered in_memory and_then read_array read_sgl
+    move_units judge opening register reg_write doorbell front took post ran_out admin_command admin start differs step run_of
+returns-clause-the_vectors_that_are_pending c = refl

@@ -7,7 +7,7 @@ use Rattle.nv_vctl.proofs.vctl.Vctl.create_completion_queue.Goals as goal
 
 pub invariant_of-self : goal.invariant_of-self
 invariant_of-self c =
-    let made : CompletionQueue = new_completion c.args.base c.args.size in
+    let made : CompletionQueue = new_completion c.args.base c.args.size c.args.vector in
     rw (c.from.ensures, c.new-made.ensures)
     (subst IsWhole (ap (λ (v : Controller). with_completion v c.args.queue (Some made)) (sym c.self.view_is))
     (whole-completion c.args.self.now c.args.queue made (ready-on c.args.self.now c.requires.ready)

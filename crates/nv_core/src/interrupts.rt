@@ -1,0 +1,16 @@
+//! The interrupts that are pending.
+
+ghost use Rattle.std.specs.Prelude.{◌≡◌, option_map, slice_get};
+ghost use Rattle.nv_model.specs.Controller.{pending};
+
+use crate::front::Front;
+use nv_model::limits::QUEUE_COUNT;
+
+impl Front {
+    /// The interrupt vectors that are pending for a guest, by the number of the completion queue that raises them; `None` where there is no such guest.
+    pub fn pending(&self, guest: u8) -> Option<[Option<u16>; QUEUE_COUNT]>
+        ensures { result ≡ option_map pending (slice_get self.now.controllers guest) }
+    {
+        Some(self.controllers.get(usize::from(guest))?.pending())
+    }
+}
