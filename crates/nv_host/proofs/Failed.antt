@@ -14,7 +14,8 @@ use Rattle.nv_entry.specs.Completion.{cid_of, phase_of, sqid_of, status_of}
 use Rattle.nv_entry.specs.Status.{StatusField, bit}
 use Rattle.nv_entry.specs.StatusCode.{done_with}
 use Rattle.nv_entry.specs.declared.status_code.StatusCode.TheVariants.{InternalError}
-use Rattle.nv_host.specs.Closing.{AreEach, IsFailing, IsLaneAlone, failed, failed_at}
+use Rattle.nv_host.specs.Ending.{IsFailing, failed_at}
+use Rattle.nv_host.specs.Closing.{AreEach, IsLaneAlone, failed}
 use Rattle.nv_laws_sound.proofs.Lists.{count-set, some-same}
 use Rattle.nv_model.specs.declared.reply.Reply.TheVariants as reply
 use Rattle.nv_world_model.proofs.Seats.{slice_get-set, slice_get-set-other}
@@ -205,6 +206,13 @@ module _ (geometry : Geometry) (lane tag : ℕ) (old new : Side) (memory entry :
         ∙ ap (λ (b : Bool). cond (b && is_flying (slice_get l.tags (cid_of entry))) (Some reply.Done) None)
         (eq-eqb (sqid_of entry) (queue_pair lane) is.queue)
         ∙ ap (λ (n : ℕ). cond (is_flying (slice_get l.tags n)) (Some reply.Done) None) is.identifier
+
+    pub told-flies : IsTrue result → is_flying (slice_get l.tags tag) ≡ true
+    told-flies told = by_flight (is_flying (slice_get l.tags tag)) (sym answered ∙ answer.0 told)
+      where
+        by_flight : (b : Bool) → (cond b (Some reply.Done) None) ≡ Some reply.Done → b ≡ true
+        by_flight true e = refl
+        by_flight false e = cc
 
     keeps : is_flying (slice_get l.tags tag) ≡ false → option_map failed (slice_get l.tags tag) ≡ slice_get l.tags tag
         → AreEach (failed_at tag) lane old new

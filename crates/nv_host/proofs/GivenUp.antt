@@ -1,25 +1,33 @@
 -- Commands that wait for their plans, of which one is given up, by their tags.
-use Rattle.std.proofs.Common.{◌≡◌, ℕ, zero, suc, ◌≤◌, ◌⊎◌, inl, inr, Bool, true, false, cond, ◌==◌, ◌||◌, eq-eqb, eqb-true, List, [], ◌∷◌, map, replicate, set, slice_get, Option, Some, None, arith, nat_lt, if◌then◌else◌}
+use Rattle.std.proofs.Common.{◌≡◌, ℕ, zero, suc, ◌≤◌, ◌⊎◌, inl, inr, Bool, true, false, cond, ◌==◌, ◌||◌, eq-eqb, eqb-true, List, [], ◌∷◌, length, map, replicate, set, slice_get, Option, Some, None, arith, nat_lt, if◌then◌else◌}
 use Rattle.std.proofs.Common.{refl, sym, ap, ◌∙◌, subst}
 use Rattle.std.proofs.lemmas.Bool.{cases_eq, eqb-false, lt-ltb, ne_eqb}
 use Rattle.std.proofs.lemmas.List.Elements.{All-cons, All-head, All-nil, All-replicate, All-tail}
 use Rattle.std.specs.List.{All, list_any}
 use Rattle.std.specs.Option.{option_map}
+use Rattle.nv_core.proofs.FrontLaws.{step-beside}
 use Rattle.nv_core.proofs.GroupWorlds.{ended-lane, group-lane, leads, not-taken, taken-tag, with_lane_at}
 use Rattle.nv_core.proofs.Sides.{own-side, own-world}
 use Rattle.nv_core.specs.Front.{IsSideStep, Side, with_side}
 use Rattle.nv_core.specs.Groups.{all_ended, tags_changed}
 use Rattle.nv_core.specs.Kept.{IsKept}
+use Rattle.nv_core.specs.Reaping.{next_completion, waits_in}
 use Rattle.nv_core.specs.Tags.{IsTaken, untaken}
+use Rattle.nv_entry.specs.Completion.{phase_of}
+use Rattle.nv_entry.specs.Status.{StatusField, bit}
 use Rattle.nv_entry.specs.StatusCode.{done_with}
 use Rattle.nv_entry.specs.declared.status_code.StatusCode.TheVariants.{InternalError, Success}
-use Rattle.nv_host.specs.Closing.{AreEach, IsLaneAlone, given_up, given_up_by}
+use Rattle.nv_host.specs.Ending.{given_up_by}
+use Rattle.nv_host.proofs.Runs.{lead-step}
+use Rattle.nv_host.specs.Ending.{IsIdle, IsIdleRun}
+use Rattle.nv_host.specs.Closing.{AreEach, GivesUp, IsLaneAlone, given_up}
 use Rattle.nv_laws_sound.proofs.CountedTags.{group-first}
 use Rattle.nv_laws_sound.proofs.Folds.{group-distinct, tag-part}
 use Rattle.nv_laws_sound.proofs.Groupings.{goes-of}
 use Rattle.nv_laws_sound.proofs.Lists.{slice_get-below, some-same}
 use Rattle.nv_laws_sound.proofs.Numbers.{AreDistinct, all-at, numbers-are, numbers_where}
 use Rattle.nv_laws_sound.proofs.Stages.{filter-at, reading-group}
+use Rattle.nv_laws_sound.specs.LaidOut.{IsLaidOut}
 use Rattle.nv_laws_sound.specs.Groups.{AllAnswered, AllHanded, AllRead, AreGroups, AtOnce, Handed, IsGroup, NoPart, Part, Reading, command_of, goes_by, group_of, part_of, parts_of}
 use Rattle.nv_model.specs.Transcript.{ReadDone}
 use Rattle.nv_model.specs.declared.reply.Reply.{Reply}
@@ -388,6 +396,41 @@ module _ (geometry : Geometry) (lane tag : ℕ) (old new : Side) (memory : List 
 
   pub gives-alone : new.tails ≡ old.tails → IsLaneAlone lane old new
   gives-alone tails = decide (IsLaneAlone lane old new) (λ u off. stayed-alone u off tails) (λ l found t. became-alone l found t tails)
+
+  -- the slot that is read next, and the phase tag that is wanted there, stay
+  rest-same : (ns : List ℕ) (v : Tag) (l : Lane) → ((tags_changed ns v l).head ≡ l.head) × ((tags_changed ns v l).phase ≡ l.phase)
+  rest-same [] v l = (refl, refl)
+  rest-same (m ∷ ns) v l = rest-same ns v (tag_changed m v l)
+
+  rest-ended : (ns : List ℕ) (command : Command) (st : StatusField) (l : Lane)
+      → ((all_ended ns command st l).head ≡ l.head) × ((all_ended ns command st l).phase ≡ l.phase)
+  rest-ended [] command st l = (refl, refl)
+  rest-ended (m ∷ ns) command st l = rest-same ns (Ended command (done_with Success) None) (tag_changed m (Ended command st None) l)
+
+  waits-as : (l k : Lane) → (k.head ≡ l.head) × (k.phase ≡ l.phase) → (at : List ℕ) → waits_in geometry lane (Some k) at ≡ waits_in geometry lane (Some l) at
+  waits-as l k same at =
+      ap (λ (n : ℕ). phase_of (next_completion geometry lane (record k { head = n }) at) == bit k.phase) same.0
+      ∙ ap (λ (b : Bool). phase_of (next_completion geometry lane l at) == bit b) same.1
+
+  pub gives-idle : (at : List ℕ) → IsIdle geometry lane old at → IsIdle geometry lane new at
+  gives-idle at idle =
+      decide (IsIdle geometry lane new at)
+      (λ u off. ap (λ (v : World). waits_in geometry lane (slice_get v.lanes lane) at) (stayed u off) ∙ idle)
+      (λ l found t.
+      ap (λ (v : World). waits_in geometry lane (slice_get v.lanes lane) at) (became l found t)
+      ∙ ap (λ (o : Option Lane). waits_in geometry lane o at) (slice_get-set old.lanes lane l (now l found t) found)
+      ∙ waits-as l (now l found t) (rest-ended (group_in (Some l) tag) t.command (done_with InternalError) l) at
+      ∙ sym (ap (λ (o : Option Lane). waits_in geometry lane o at) found) ∙ idle)
+
+-- as a run
+pub gives-run : (host_bytes : ℕ) (geometry : Geometry) (lane tag : ℕ) (old new : Side) (r : Reply) → IsLaidOut host_bytes (length old.lanes) geometry
+    → ((at : List ℕ) → IsSideStep geometry (event.GiveUp lane tag) old at r new at) → length new.tails ≡ length old.tails
+    → (at : List ℕ) → IsIdleRun geometry lane old at new at
+gives-run host_bytes geometry lane tag old new r laid made many at w on live idle = (
+  lead-step host_bytes geometry lane old at laid w on live (event.GiveUp lane tag) new at (GivesUp tag refl)
+      (step-beside geometry (event.GiveUp lane tag) tt old new at at r (made at) many w on).world,
+  gives-idle geometry lane tag old new at r (made at) at idle,
+)
 
 -- ---- tag after tag
 

@@ -1,10 +1,15 @@
 pub mod Accepted
 pub mod Calls
+pub mod Closes
 pub mod Dues
 pub mod Failed
+pub mod Fails
+pub mod Failures
 pub mod GivenUp
 pub mod Over
 pub mod Reaps
 pub mod Ring
+pub mod Runs
 pub mod Starts
 pub mod Cleared
+pub mod TakenAll

@@ -1,7 +1,7 @@
 -- What is written into a lane's completion ring, and what is read there next.
 use Rattle.std.proofs.Common.{◌≡◌, ℕ, ◌+◌, ◌^◌, ◌<◌, ◌≤◌, ◌⊎◌, inl, inr, Bool, true, false, List, length, get_or, slice_get, Option, Some, None, arith, refl, sym, ap, ◌∙◌, subst}
 use Rattle.std.specs.Option.{option_map, unwrap_or}
-use Rattle.std.specs.Prelude.{◌↔◌, IsTrue}
+use Rattle.std.specs.Prelude.{◌↔◌, IsTrue, MatchOption}
 use Rattle.nv_core.proofs.ReapAnswers.{waits-told}
 use Rattle.nv_core.proofs.StoredRows.{byte_in-stored}
 use Rattle.nv_core.specs.Reaping.{next_completion, waits_in}
@@ -51,6 +51,11 @@ module _ (geometry : Geometry) (lane : ℕ) where
         apart at (inl below) = inl (omega (arith, below, low))
         apart at (inr above) = inr (omega (arith, above, high, sized))
 
+    pub put-stored : (l : Lane) → addr ≡ completion_slot geometry.mediator lane l.head
+        → byte_in after ≡ stored (byte_in memory) (completion_slot geometry.mediator lane l.head) bytes
+    put-stored l at =
+        ap byte_in is ∙ byte_in-stored memory addr bytes fits ∙ ap (λ (a : ℕ). stored (byte_in memory) a bytes) at
+
     pub next-stored : (l : Lane) → addr ≡ completion_slot geometry.mediator lane l.head → next_completion geometry lane l after ≡ bytes
     next-stored l at =
         ap (λ (xs : List ℕ). bytes_from (byte_in xs) (completion_slot geometry.mediator lane l.head) cqe_size) is
@@ -96,5 +101,8 @@ module _ (h o : Served) (view : h ≡ o) (is : IsServed h) (lane : ℕ) where
   pub few-bytes : o.setup.host_bytes ≤ 2 ^ 64
   few-bytes = subst (λ (x : Served). x.setup.host_bytes ≤ 2 ^ 64) view (lies-out h.setup is.accepted is.sound).few
 
-  pub area-same : h.setup.geometry.mediator ≡ o.setup.geometry.mediator
-  area-same = ap (λ (x : Served). x.setup.geometry.mediator) view
+-- where the ring of a lane that is there begins
+pub ring-start : (start : Option ℕ) (lanes lane first : ℕ) → MatchOption start (lanes ≤ lane) (λ addr. (lane < lanes) × (addr ≡ first)) → lane < lanes
+    → unwrap_or start 0 ≡ first
+ring-start None lanes lane first is below = absurd (omega (arith, is, below))
+ring-start (Some addr) lanes lane first is below = is.1

@@ -1,18 +1,36 @@
--- What closing a lane comes to, whatever is in memory: by the lane's tags, and in memory (profile).
-use Rattle.std.specs.Prelude.{◌≡◌, ◌≢◌, ◌⊎◌, ℕ, zero, suc, Bool, false, ◌<◌, ◌≤◌, ◌==◌, if◌then◌else◌, List, length, None, Some, option_map, slice_get}
+-- What closing a lane comes to: by logs of events, and, whatever is in memory, by the lane's tags and by bytes (profile).
+use Rattle.std.specs.Prelude.{◌≡◌, ◌≢◌, ◌⊎◌, ◌++◌, ℕ, zero, suc, false, ◌<◌, ◌≤◌, ◌==◌, if◌then◌else◌, All, List, length, None, Some, option_map, slice_get}
 use Rattle.nv_core.specs.Front.{IsReaped, Side}
 use Rattle.nv_core.specs.Jobs.{job_in}
 use Rattle.nv_core.specs.Reaping.{answer_of}
 use Rattle.nv_core.specs.Tags.{is_flying}
-use Rattle.nv_entry.specs.Completion.{cid_of, phase_of, sqid_of, status_of}
-use Rattle.nv_entry.specs.Status.{bit}
 use Rattle.nv_entry.specs.StatusCode.{done_with}
 use Rattle.nv_entry.specs.declared.status_code.StatusCode.TheVariants.{InternalError, Success}
+use Rattle.nv_host.specs.Served.{LeadsTo, Served}
 use Rattle.nv_model.specs.Memory.{byte_in}
 use Rattle.nv_model.specs.declared.reply.Reply.TheVariants as reply
-use Rattle.nv_world_model.specs.Area.{completion_slot, queue_pair, ring_size}
+use Rattle.nv_world_model.specs.Area.{completion_slot, ring_size}
 use Rattle.nv_world_model.specs.Geometry.{Geometry}
-use Rattle.nv_world_model.specs.World.{Ended, Flying, Free, Tag, Taken, tag_in}
+use Rattle.nv_world_model.specs.World.{Ended, Flying, Free, Tag, Taken, World, tag_in}
+use Rattle.nv_world_model.specs.declared.event.Event.{Event}
+use Rattle.nv_world_model.specs.declared.event.Event.TheVariants as event
+use Rattle.nv_world_model.specs.declared.logged.Logged.{Logged}
+
+-- ---- logs
+
+-- an event by which a lane's commands end: a completion is read, an entry is taken, a command fails with Internal Error, or one is given up
+pub data IsEnding (lane : ℕ) (e : Event) : Type 0 where
+  Reads : e ≡ event.Reap lane → IsEnding lane e
+  Takes : e ≡ event.DevTake lane → IsEnding lane e
+  Fails : (tag : ℕ) → e ≡ event.DevFail lane tag (done_with InternalError) → IsEnding lane e
+  GivesUp : (tag : ℕ) → e ≡ event.GiveUp lane tag → IsEnding lane e
+
+-- a log and such events of one lane after it lead to a mediator and a memory
+pub record IsEndedBy (lane : ℕ) (first : World) (log : List Logged) (h : Served) (memory : List ℕ) : Type 0 where
+  pub added : List Logged
+  pub ending : All (λ l. IsEnding lane l.event) added
+  pub world : World
+  pub leads : LeadsTo h first memory (log ++ added) world
 
 -- ---- tags
 
@@ -33,16 +51,6 @@ given_up tag (Ended command st share) = Ended command st share
 -- both
 abbrev pub over : (tag : ℕ) → Tag → Tag
 over tag t = failed (given_up tag t)
-
--- the same of the tags that go by one tag alone, and of one tag alone
-abbrev pub given_up_by : (leader tag : ℕ) → Tag → Tag
-given_up_by leader tag Free = Free
-given_up_by leader tag (Taken command reads) = if command.leader == leader then given_up tag (Taken command reads) else Taken command reads
-given_up_by leader tag (Flying command share at) = Flying command share at
-given_up_by leader tag (Ended command st share) = Ended command st share
-
-abbrev pub failed_at : (number tag : ℕ) → Tag → Tag
-failed_at number tag t = if tag == number then failed t else t
 
 -- each tag of a lane was changed so
 abbrev pub AreEach : (change : (tag : ℕ) → Tag → Tag) → (lane : ℕ) → (old new : Side) → Type 0
@@ -81,13 +89,6 @@ pub record IsOver (geometry : Geometry) (lane : ℕ) (memory : List ℕ) (old ne
   pub each : AreEach over lane read new
 
 -- ---- memory
-
--- the completion with which the physical controller fails the command of a tag
-pub record IsFailing (lane tag : ℕ) (phase : Bool) (completion : List ℕ) : Type 0 where
-  pub queue : sqid_of completion ≡ queue_pair lane
-  pub identifier : cid_of completion ≡ tag
-  pub phase_tag : phase_of completion ≡ bit phase
-  pub status : status_of completion ≡ done_with InternalError
 
 -- no byte of a memory has changed but those of a lane's completion ring
 pub record IsRingAlone (geometry : Geometry) (lane : ℕ) (before after : List ℕ) : Type 0 where

@@ -1,9 +1,11 @@
 //! Lanes that are closed.
 
-ghost use Rattle.std.specs.Prelude.{◌≡◌, ◌<◌, false, length, not, slice_get, slice_set, true};
+ghost use Rattle.std.specs.Prelude.{◌≡◌, ◌<◌, List, false, length, not, slice_get, slice_set, true};
 ghost use Rattle.nv_core.specs.Reaping.{waits_in};
-ghost use Rattle.nv_host.specs.Closing.{AreDone, IsLaneAlone, IsOver, IsRingAlone};
-ghost use Rattle.nv_host.specs.Served.{is_closed};
+ghost use Rattle.nv_host.specs.Closing.{AreDone, IsEndedBy, IsLaneAlone, IsOver, IsRingAlone};
+ghost use Rattle.nv_host.specs.Served.{LeadsTo, is_closed};
+ghost use Rattle.nv_world_model.specs.World.{World};
+ghost use Rattle.nv_world_model.specs.declared.logged.Logged.{Logged};
 
 use crate::host_mediator::HostMediator;
 use nv_mem::MemoryCell;
@@ -24,10 +26,14 @@ impl HostMediator {
     /// It takes no memory. Of the host's memory no byte changes but those of the lane's completion ring. Of the mediator nothing changes but the lane: the
     /// other lanes, all tails and the guests' controllers are as they were. To use the drive again the host makes another mediator.
     ///
-    /// It is no event of the definition, and its contract gives no log that leads to the mediator afterwards. So what is promised of guests by logs, as in
-    /// [`HostMediator::promise`], says nothing after a close; what is said here of tags and bytes, and what the other calls say of each world, does.
+    /// It is a run of the definition's own events, after each log that leads to the mediator and the memory as they are, and no other lane's and no guest's
+    /// is among them: a Reap of each completion that is there, a GiveUp of what waits for its plan, a DevTake of each entry that the drive has not taken, and
+    /// for each command that it has a DevFail and a Reap. So a log leads past a close, and [`HostMediator::promise`] says of it what it says of every other.
+    /// Where no log leads to the mediator, since the drive did what it may not, the clauses on tags and bytes hold all the same.
     pub fn close<C: MemoryCell>(&mut self, lane: u8, memory: &mut [C])
         requires { length (C.bytes memory.old) ≡ self.old.setup.host_bytes }
+        ensures logs { (first : World) (log : List Logged) (z : World) → LeadsTo self.old first (C.bytes memory.old) log z →
+            IsEndedBy lane first log self.new (C.bytes memory.new) }
         ensures over { IsOver self.old.setup.geometry lane (C.bytes memory.old) self.old.side self.new.side }
         ensures ended { AreDone lane self.new.side }
         ensures alone { IsLaneAlone lane self.old.side self.new.side }

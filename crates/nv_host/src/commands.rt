@@ -2,11 +2,12 @@
 
 ghost use Rattle.std.specs.Prelude.{◌≡◌, ℕ, IfOk, IfSome, List, None, Ok, OnErr, false, length, slice_get, true};
 ghost use Rattle.std.specs.Result.{result_ok};
-ghost use Rattle.nv_core.specs.Front.{IsReaped};
+ghost use Rattle.nv_core.specs.Front.{IsBeside, IsLive, IsReaped, IsStepBeside};
 ghost use Rattle.nv_core.specs.Reaping.{answer_of};
 ghost use Rattle.nv_core.specs.Seat.{bytes_told};
 ghost use Rattle.nv_core.specs.Submit.{IsCurrentIn};
 ghost use Rattle.nv_host.specs.Served.{IsDone, IsNext, IsUnreached, is_closed};
+ghost use Rattle.nv_world_model.specs.World.{World};
 
 use crate::closing::Closed;
 use crate::host_mediator::HostMediator;
@@ -145,8 +146,11 @@ impl HostMediator {
         ensures answer { result_ok result ≡ answer_of self.old.setup.geometry lane (slice_get self.old.side.lanes lane) (C.bytes memory.now) }
         ensures ended { result ≡ Ok Reply.Done → IsReaped self.old.setup.geometry lane self.old.side self.new.side (C.bytes memory.now) }
         ensures ok { IfOk result (λ reply. IsNext (Event.Reap lane) self.old (C.bytes memory.now) reply self.new (C.bytes memory.now)) }
+        ensures worlds { IfOk result (λ reply. (w : World) → IsBeside self.old.side (C.bytes memory.now) w → IsLive self.old.setup.geometry w →
+            IsStepBeside self.old.setup.geometry (Event.Reap lane) w reply self.new.side (C.bytes memory.now)) }
         ensures same { (result ≡ Ok Reply.Done → ⊥) → self.new ≡ self.old }
         ensures stray { OnErr result (IsUnreached self.old (C.bytes memory.now)) }
+        ensures nowhere { OnErr result ((w : World) → IsBeside self.old.side (C.bytes memory.now) w → IsLive self.old.setup.geometry w → ⊥) }
         ensures tails { self.new.side.tails ≡ self.old.side.tails }
         ensures closed { self.new.closed ≡ self.old.closed }
         ensures setup { self.new.setup ≡ self.old.setup }

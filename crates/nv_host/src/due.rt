@@ -1,7 +1,8 @@
 //! Whether an event is due.
 
-ghost use Rattle.std.specs.Prelude.{◌≡◌, ◌&&◌, ℕ, List, false, length};
+ghost use Rattle.std.specs.Prelude.{◌≡◌, ◌&&◌, ℕ, List, false, length, slice_get};
 ghost use Rattle.nv_core.specs.Front.{IsBeside};
+ghost use Rattle.nv_core.specs.Reaping.{waits_in};
 ghost use Rattle.nv_host.specs.Served.{LeadsTo, is_closed, is_offered, is_reap};
 ghost use Rattle.nv_world_model.specs.Due.{due};
 ghost use Rattle.nv_world_model.specs.World.{World};
@@ -13,7 +14,8 @@ use nv_world_model::Event;
 
 impl HostMediator {
     /// Whether an event is one of Admin, Take, Reap and Post and would be done now; a Take for a lane that was closed is not due. It is what a worker asks
-    /// before it makes such an event. Nothing changes, no memory is taken, and what it costs does not depend on the host.
+    /// before it makes such an event. A Reap is due where the slot that is read next has the phase tag that is wanted, whatever else is in memory. Nothing
+    /// changes, no memory is taken, and what it costs does not depend on the host.
     #[tactic(auto, unfolding(nv_world_model::specs::Due::due))]
     pub fn due<C: MemoryCell>(&self, event: &Event, memory: &[C]) -> bool
         requires { length (C.bytes memory.now) ≡ self.now.setup.host_bytes }
@@ -21,6 +23,8 @@ impl HostMediator {
             result ≡ (is_offered self.now event.now && due self.now.setup.geometry event.now z) }
         ensures worlds { (w : World) → IsBeside self.now.side (C.bytes memory.now) w → is_reap event.now ≡ false →
             result ≡ (is_offered self.now event.now && due self.now.setup.geometry event.now w) }
+        ensures slot { (lane : ℕ) → event.now ≡ Event.Reap lane →
+            result ≡ waits_in self.now.setup.geometry lane (slice_get self.now.side.lanes lane) (C.bytes memory.now) }
     {
         match event {
             Event::Admin(guest) => self.admin_due(*guest),
@@ -57,10 +61,11 @@ impl HostMediator {
             .take_due(&self.layout, guest, queue, lane, memory)
     }
 
-    // Whether a completion of a lane waits.
-    fn reap_due<C: MemoryCell>(&self, lane: u8, memory: &[C]) -> bool
+    /// Whether a completion of a lane waits: the slot of its completion ring that is read next has the phase tag that is wanted.
+    pub(crate) fn reap_due<C: MemoryCell>(&self, lane: u8, memory: &[C]) -> bool
         requires { length (C.bytes memory.now) ≡ self.now.setup.host_bytes }
-        ensures { (first : World) (log : List Logged) (z : World) → LeadsTo self.now first (C.bytes memory.now) log z →
+        ensures slot { result ≡ waits_in self.now.setup.geometry lane (slice_get self.now.side.lanes lane) (C.bytes memory.now) }
+        ensures logs { (first : World) (log : List Logged) (z : World) → LeadsTo self.now first (C.bytes memory.now) log z →
             result ≡ due self.now.setup.geometry (Event.Reap lane) z }
     {
         self.front.reap_due(&self.layout, lane, memory)

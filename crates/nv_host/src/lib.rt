@@ -4,7 +4,7 @@
 //! controller. The host's memory is lent to each call, as a slice of cells, and the drive is the host's. [`HostMediator::new`] makes it of a [`Setup`],
 //! or returns the first reason for which the set-up is refused.
 //!
-//! Each other call that changes something is a whole event of the definition (`nv_world_model/specs/Step`). The events of guests are
+//! Each other call that changes something, but for a close, is a whole event of the definition (`nv_world_model/specs/Step`). The events of guests are
 //! [`HostMediator::act`], [`HostMediator::store`], [`HostMediator::load`] and [`HostMediator::admin`]. Those of the mediator are
 //! [`HostMediator::take`], [`HostMediator::list`], [`HostMediator::submit`] and [`HostMediator::submit_plan`], [`HostMediator::give_up`],
 //! [`HostMediator::reap`] and [`HostMediator::post`]. [`HostMediator::due`] reports what there is to do, and [`HostMediator::tail`],
@@ -15,10 +15,9 @@
 //! event. Such a log has the calls with their replies, and what the drive did between them. Nobody has to keep one. [`HostMediator::promise`] does
 //! nothing: its contract says that every log that leads there keeps the whole promise.
 //!
-//! [`HostMediator::close`] is no event: it ends the commands of one lane where the drive's completions can't be relied on any more. Its contract says by
-//! the lane's tags what becomes of them, in whatever memory (`specs/Closing`), and that nothing else changes. That the commands end as a controller that
-//! fails them would have it is not proved by logs: no contract gives a log that leads to the mediator after a close. What each call says of each world in
-//! which the mediator may be holds then as before.
+//! [`HostMediator::close`] ends the commands of one lane where the drive's completions can't be relied on any more. It is several events: of each log that
+//! leads to the mediator it is a run of Reap, GiveUp, DevTake and DevFail of that lane, so that a log leads past it and the promise holds as before. By the
+//! lane's tags and by bytes its contract says besides what becomes of the commands in whatever memory (`specs/Closing`), and that nothing else changes.
 //!
 //! The type keeps what no byte of memory can spoil. So each call is safe, ends and answers, whatever the drive or a guest has written; a completion
 //! that names no command on its way is a [`Stray`], and changes nothing.

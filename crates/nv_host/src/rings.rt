@@ -20,7 +20,8 @@ impl HostMediator {
     /// The slot of a lane's submission ring that the next entry goes to, 0 to 64: what the drive's tail doorbell of the ring is to have. `None` where there
     /// is no such lane.
     pub fn tail(&self, lane: u8) -> Option<u16>
-        ensures { result ≡ slice_get self.now.side.tails lane }
+        ensures value { result ≡ slice_get self.now.side.tails lane }
+        ensures there { MatchOption result (self.now.setup.lanes ≤ lane) (λ _. lane < self.now.setup.lanes) }
     {
         self.front.tail(lane)
     }
@@ -28,7 +29,8 @@ impl HostMediator {
     /// The slot of a lane's completion ring that is read next, 0 to 64: what the drive's head doorbell of the ring is to have. `None` where there is no
     /// such lane.
     pub fn head(&self, lane: u8) -> Option<u16>
-        ensures { result ≡ option_map (λ l. l.head) (slice_get self.now.side.lanes lane) }
+        ensures value { result ≡ option_map (λ l. l.head) (slice_get self.now.side.lanes lane) }
+        ensures there { MatchOption result (self.now.setup.lanes ≤ lane) (λ _. lane < self.now.setup.lanes) }
     {
         self.front.head(lane)
     }

@@ -1,8 +1,10 @@
-use Rattle.std.proofs.Common.{ℕ, List, [], refl, replicate, subst}
+use Rattle.std.proofs.Common.{ℕ, List, [], length, refl, replicate, subst}
 use Rattle.std.proofs.lemmas.List.{length-replicate}
-use Rattle.nv_host.proofs.Calls.{call-served, many-same}
-use Rattle.nv_host.proofs.GivenUp.{gives-alone, gives-each}
-use Rattle.nv_host.specs.Closing.{AreEach, IsLaneAlone, given_up_by}
+use Rattle.nv_host.proofs.Calls.{call-served, many-same, served-lent}
+use Rattle.nv_host.proofs.GivenUp.{gives-alone, gives-each, gives-run}
+use Rattle.nv_host.specs.Ending.{given_up_by}
+use Rattle.nv_host.specs.Ending.{IsIdleRun}
+use Rattle.nv_host.specs.Closing.{AreEach, IsLaneAlone}
 use Rattle.nv_host.specs.Served.{Served}
 use Rattle.nv_world_model.specs.declared.event.Event.TheVariants as event
 use Rattle.nv_host.proofs.host_mediator.HostMediator.give_up_led.Goals as goal
@@ -25,3 +27,12 @@ returns-clause-alone c =
     let h : Served = record { setup = record { host_bytes = c.self.inside.host_bytes; lanes = c.self.inside.lanes; geometry = c.self.inside.layout }; side = c.self.inside.front; closed = c.self.inside.closed.items } in
     subst (λ (x : Served). IsLaneAlone c.args.lane x.side c.give_up-told.new.self) c.self.view_is
     (gives-alone h.setup.geometry c.args.lane c.args.tag h.side c.give_up-told.new.self [] c.give_up-told.result (c.give_up-told.ensures.step []) c.give_up-told.ensures.tails)
+
+pub returns-clause-run : goal.returns-clause-run
+returns-clause-run c = λ memory.
+    let h : Served = record { setup = record { host_bytes = c.self.inside.host_bytes; lanes = c.self.inside.lanes; geometry = c.self.inside.layout }; side = c.self.inside.front; closed = c.self.inside.closed.items } in
+    let zeros : List ℕ = replicate c.args.self.now.setup.host_bytes 0 in
+    let lent = served-lent h c.args.self.now c.self.view_is c.self.invariant zeros (length-replicate c.args.self.now.setup.host_bytes 0) in
+    subst (λ (x : Served). IsIdleRun x.setup.geometry c.args.lane x.side memory c.give_up-told.new.self memory) c.self.view_is
+    (gives-run (length zeros) h.setup.geometry c.args.lane c.args.tag h.side c.give_up-told.new.self c.give_up-told.result lent.laid_out
+    c.give_up-told.ensures.step (many-same h.side c.give_up-told.new.self c.give_up-told.ensures.tails) memory)

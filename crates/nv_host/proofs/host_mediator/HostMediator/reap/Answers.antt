@@ -1,7 +1,11 @@
-use Rattle.std.proofs.Common.{ap}
+use Rattle.std.proofs.Common.{ℕ, List, ap, subst}
+use Rattle.std.specs.Prelude.{IfOk, OnErr}
+use Rattle.nv_core.specs.Front.{IsBeside, IsLive, IsStepBeside}
 use Rattle.nv_host.proofs.Calls.{served-lent}
 use Rattle.nv_host.proofs.Reaps.{reap-next, reap-served, reap-stray}
 use Rattle.nv_host.specs.Served.{Served}
+use Rattle.nv_world_model.specs.World.{World}
+use Rattle.nv_world_model.specs.declared.event.Event.TheVariants as event
 use Rattle.nv_host.proofs.host_mediator.HostMediator.reap.Goals as goal
 
 pub reap-requires : goal.reap-requires
@@ -29,3 +33,14 @@ returns-clause-stray g c =
 
 pub returns-clause-setup : goal.returns-clause-setup
 returns-clause-setup g c = ap (λ (x : Served). x.setup) c.self.view_is
+
+pub returns-clause-worlds : goal.returns-clause-worlds
+returns-clause-worlds g c =
+    let memory : List ℕ = g.C.MemoryCell.bytes c.args.memory.now in
+    subst (λ (x : Served). IfOk c.reap.result (λ r. (w : World) → IsBeside x.side memory w → IsLive x.setup.geometry w
+    → IsStepBeside x.setup.geometry (event.Reap c.args.lane) w r c.reap.new.self memory)) c.self.view_is c.reap.ensures.beside
+
+pub returns-clause-nowhere : goal.returns-clause-nowhere
+returns-clause-nowhere g c =
+    let memory : List ℕ = g.C.MemoryCell.bytes c.args.memory.now in
+    subst (λ (x : Served). OnErr c.reap.result ((w : World) → IsBeside x.side memory w → IsLive x.setup.geometry w → ⊥)) c.self.view_is c.reap.ensures.stray

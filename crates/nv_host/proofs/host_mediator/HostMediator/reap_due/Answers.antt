@@ -8,7 +8,7 @@ reap_due-requires g c =
     let h : Served = record { setup = record { host_bytes = c.self.inside.host_bytes; lanes = c.self.inside.lanes; geometry = c.self.inside.layout }; side = c.self.inside.front; closed = c.self.inside.closed.items } in
     served-lent h c.args.self.now c.self.view_is c.self.invariant (g.C.MemoryCell.bytes c.args.memory.now) c.requires
 
-pub returns : goal.returns
-returns g c =
+pub returns-clause-logs : goal.returns-clause-logs
+returns-clause-logs g c =
     let h : Served = record { setup = record { host_bytes = c.self.inside.host_bytes; lanes = c.self.inside.lanes; geometry = c.self.inside.layout }; side = c.self.inside.front; closed = c.self.inside.closed.items } in
     told-live h c.args.self.now c.self.view_is (g.C.MemoryCell.bytes c.args.memory.now) c.reap_due.result c.self.invariant c.args.lane c.reap_due.ensures.beside

@@ -1,8 +1,0 @@
-use Rattle.nv_host.proofs.Calls.{served-lent}
-use Rattle.nv_host.specs.Served.{Served}
-use Rattle.nv_host.proofs.host_mediator.HostMediator.waits.Goals as goal
-
-pub reap_due-requires : goal.reap_due-requires
-reap_due-requires g c =
-    let h : Served = record { setup = record { host_bytes = c.self.inside.host_bytes; lanes = c.self.inside.lanes; geometry = c.self.inside.layout }; side = c.self.inside.front; closed = c.self.inside.closed.items } in
-    served-lent h c.args.self.now c.self.view_is c.self.invariant (g.C.MemoryCell.bytes c.args.memory.now) c.requires
