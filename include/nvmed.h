@@ -1,7 +1,10 @@
 /* nvmed.h: a proved NVMe mediator, as a library. docs/EMBEDDING.md says how it is used.
  *
- * A mediator has a host's memory, guests whose memory lies in it, a virtual NVMe controller for each guest, and a physical controller with a disk,
- * which the guests share. The physical controller is the library's own: a disk in memory.
+ * A mediator has guests whose memory lies in the host's, a virtual NVMe controller for each guest, and a physical controller, which the guests share.
+ * There are two kinds, by the same calls:
+ *   nvmed_serve  The memory and the drive are the host's. The host lends its memory to each call, makes the lanes' rings (nvmed_rings) queues of its
+ *                drive, and writes the drive's doorbells. The events of the drive (DEV_TAKE to KEEP) are its own: of them a call returns NO_SUCH.
+ *   nvmed_new    Memory and drive are the library's own: a simulation, for tests and first steps.
  *
  * The library is written in Rattle and proved. Each call below names what is proved of it, on a handle that holds a mediator:
  *   SAFE      The call is memory safe, ends, and returns one of the numbers below, whatever numbers and bytes it is given.
@@ -20,11 +23,17 @@
  *   - no slot of its completion queues has a byte that an outstanding command names;
  *   - it stores nothing into what an outstanding command names, and loads nothing from what one writes.
  *
+ * Where the drive is the host's, EXACT, CONTAINED and PRIVATE have one more premise, which nothing here can prove: what the calls and the drive did is
+ * a log of the definition's events. That is so where the drive does what NVMe says of the commands in its rings, and nobody writes into the memory that
+ * is lent but these calls, guests (each into its own memory), and the drive (what its commands name, and the completion rings). SAFE needs none of that.
+ *
  * What C has to keep to, which nothing checks:
  *   - A pointer is null, or points to as much as is said. What is written does not overlap what else is passed, nor what a view showed.
  *   - A handle has one caller at a time, for every call: while a call runs it writes to the handle, even if it changes nothing of the mediator. A handle
  *     may go from thread to thread, with a lock or a join between the calls.
  *   - A handle is zero before its first use (NVMED_INIT), and is not copied while it holds a mediator.
+ *   - The memory that is lent to nvmed_serve stays there until nvmed_free: host_bytes of address space, of which only what regions and the mediator's
+ *     area name is ever touched.
  *   - malloc, realloc and free come from one allocator. No call is made from a signal handler.
  *
  * For a null pointer a call returns NVMED_NULL and does nothing else. A null pointer with a length of 0 is an empty list. The lines of this file that
@@ -43,7 +52,7 @@ extern "C" {
 
 /* The version of this interface. Its major number changes when a call or a struct changes or goes: programs must be compiled anew. Its minor number
  * changes when calls are added: programs that were compiled before go on as they are. NVMED_VERSION is both in one number, which may be compared. */
-#define NVMED_VERSION_MAJOR 1
+#define NVMED_VERSION_MAJOR 2
 #define NVMED_VERSION_MINOR 0
 #define NVMED_VERSION (NVMED_VERSION_MAJOR * 65536u + NVMED_VERSION_MINOR)
 
@@ -67,25 +76,34 @@ typedef enum nvmed_status {
     NVMED_NO_MEDIATOR = 16,    /* the handle holds no mediator */
     NVMED_IN_USE = 17,         /* the handle holds one already */
     NVMED_NO_SUCH = 18,        /* a number that is looked at is above 255 (of a queue 65,535), or no such kind of event, scope, status or block */
-    NVMED_NULL = 19            /* a pointer is null that may not be */
+    NVMED_NULL = 19,           /* a pointer is null that may not be */
+    NVMED_OTHER_MEMORY = 20,   /* the memory that is lent is not as long as the set-up says */
+    NVMED_CLOSED = 21,         /* the lane was closed: nothing is taken for it any more */
+    NVMED_STRAY = 22           /* a completion of the drive names no command that it has: close the lane */
 } nvmed_status;
 
-/* A handle. Its member is the library's. */
-typedef struct nvmed {
+/* A handle. Its members are the library's, and this header's. */
+typedef struct nvmed_handle {
     void *hosted;
+} nvmed_handle;
+
+typedef struct nvmed {
+    nvmed_handle handle;
+    uint8_t *memory; /* the host's memory that is lent to each call, of nvmed_serve */
+    uint64_t bytes;  /* its length */
 } nvmed;
 
 #ifdef __cplusplus
-#define NVMED_INIT nvmed{nullptr}
+#define NVMED_INIT nvmed{{nullptr}, nullptr, 0}
 #else
-#define NVMED_INIT ((nvmed){0})
+#define NVMED_INIT ((nvmed){{0}, 0, 0})
 #endif
 
 /* The sizes of a set-up. */
 typedef struct nvmed_sizes {
-    uint64_t host_bytes;  /* the host's memory: 4,096 to 1,073,741,824 bytes, a multiple of 4,096 */
+    uint64_t host_bytes;  /* the host's memory: 4,096 to 1,073,741,824 bytes (of nvmed_serve 2^47), a multiple of 4,096 */
     uint64_t mediator;    /* the host address of the mediator's area, a multiple of 4,096; it has 8,663,040 bytes for each lane */
-    uint64_t disk_blocks; /* the disk: 1 to 2,097,152 blocks of 512 bytes */
+    uint64_t disk_blocks; /* the disk: 1 to 2,097,152 blocks of 512 bytes (of nvmed_serve 2^48) */
     uint64_t lanes;       /* queue pairs of the physical controller: 1 to 8 */
 } nvmed_sizes;
 
@@ -134,29 +152,53 @@ typedef struct nvmed_event {
     uint64_t number;
 } nvmed_event;
 
+/* A lane's rings, as nvmed_rings reports them. */
+typedef struct nvmed_lane_rings {
+    uint64_t submission; /* the host address of the submission ring, of entries of 64 bytes */
+    uint64_t completion; /* the host address of the completion ring, of entries of 16 bytes */
+    uint32_t entries;    /* how many entries each has */
+    uint32_t tail;       /* what the submission ring's tail doorbell is to have */
+    uint32_t head;       /* what the completion ring's head doorbell is to have */
+    uint32_t closed;     /* 1 where the lane was closed, and else 0 */
+} nvmed_lane_rings;
+
+/* The most vectors of a guest: one of each of its completion queues, the admin queue's among them. */
+enum { NVMED_VECTORS = 9 };
+
 /* Of whom nvmed_work does what is due. */
 typedef enum nvmed_scope { NVMED_OF_GUEST = 1, NVMED_OF_LANE = 2, NVMED_OF_ALL = 3 } nvmed_scope;
 
 /* What the library exports. No pointer may be null here: use the calls below, which test them. A slice is its pointer and its length. */
 uint32_t nvmed_raw_version(void);
-uint32_t nvmed_raw_new(nvmed *, const nvmed_sizes *, const uint32_t *, size_t, const nvmed_region *, size_t, const nvmed_extent *, size_t);
-uint32_t nvmed_raw_free(nvmed *);
-uint32_t nvmed_raw_store(nvmed *, uint32_t, uint64_t, const uint8_t *, size_t);
-uint32_t nvmed_raw_load(nvmed *, uint32_t, uint64_t, uint8_t *, size_t);
-uint32_t nvmed_raw_reg_read(nvmed *, uint32_t, uint32_t, uint32_t *);
-uint32_t nvmed_raw_reg_write(nvmed *, uint32_t, uint32_t, uint32_t);
-uint32_t nvmed_raw_doorbell(nvmed *, uint32_t, uint32_t, uint32_t);
-uint32_t nvmed_raw_step(nvmed *, const nvmed_event *);
-uint32_t nvmed_raw_due(nvmed *, const nvmed_event *, uint32_t *);
-uint32_t nvmed_raw_work(nvmed *, uint32_t, uint32_t, uint64_t, uint64_t *);
-uint32_t nvmed_raw_memory(nvmed *, uint32_t, uint64_t, uint8_t *, size_t, const uint8_t **, uint64_t *);
-uint32_t nvmed_raw_block(nvmed *, uint64_t, const uint8_t **);
-uint32_t nvmed_raw_kept(nvmed *, uint64_t, uint32_t *);
+uint32_t nvmed_raw_new(nvmed_handle *, const nvmed_sizes *, const uint32_t *, size_t, const nvmed_region *, size_t, const nvmed_extent *, size_t);
+uint32_t nvmed_raw_serve(nvmed_handle *, const nvmed_sizes *, const uint32_t *, size_t, const nvmed_region *, size_t, const nvmed_extent *, size_t,
+                         uint8_t *, size_t);
+uint32_t nvmed_raw_free(nvmed_handle *);
+uint32_t nvmed_raw_store(nvmed_handle *, uint32_t, uint64_t, const uint8_t *, size_t, uint8_t *, size_t);
+uint32_t nvmed_raw_load(nvmed_handle *, uint32_t, uint64_t, uint8_t *, size_t, const uint8_t *, size_t);
+uint32_t nvmed_raw_reg_read(nvmed_handle *, uint32_t, uint32_t, uint32_t *, uint8_t *, size_t);
+uint32_t nvmed_raw_reg_write(nvmed_handle *, uint32_t, uint32_t, uint32_t, uint8_t *, size_t);
+uint32_t nvmed_raw_doorbell(nvmed_handle *, uint32_t, uint32_t, uint32_t, uint8_t *, size_t);
+uint32_t nvmed_raw_step(nvmed_handle *, const nvmed_event *, uint8_t *, size_t);
+uint32_t nvmed_raw_due(nvmed_handle *, const nvmed_event *, uint32_t *, const uint8_t *, size_t);
+uint32_t nvmed_raw_work(nvmed_handle *, uint32_t, uint32_t, uint64_t, uint64_t *, uint8_t *, size_t);
+uint32_t nvmed_raw_rings(nvmed_handle *, uint32_t, nvmed_lane_rings *);
+uint32_t nvmed_raw_pending(nvmed_handle *, uint32_t, uint32_t, uint32_t *);
+uint32_t nvmed_raw_close(nvmed_handle *, uint32_t, uint8_t *, size_t);
+uint32_t nvmed_raw_memory(nvmed_handle *, uint32_t, uint64_t, uint8_t *, size_t, const uint8_t **, uint64_t *);
+uint32_t nvmed_raw_block(nvmed_handle *, uint64_t, const uint8_t **);
+uint32_t nvmed_raw_kept(nvmed_handle *, uint64_t, uint32_t *);
 
 /* An address for a list of no members, which may be null in C. */
 static inline const void *nvmed_some(const void *at, uint64_t length) {
     static const uint64_t none = 0;
     return length == 0 ? &none : at;
+}
+
+/* The memory that is lent to a call: none of a mediator that has its own. */
+static inline uint8_t *nvmed_lent(const nvmed *m) {
+    static uint8_t none;
+    return m->memory ? m->memory : &none;
 }
 
 /* The version of the library that is linked, counted as NVMED_VERSION is. A library serves a program if their major numbers are the same, and its minor
@@ -172,20 +214,46 @@ static inline uint32_t nvmed_version(void) { return nvmed_raw_version(); }
 static inline nvmed_status nvmed_new(nvmed *m, const nvmed_sizes *sizes, const uint32_t *limits, uint64_t guests, const nvmed_region *regions,
                                      uint64_t region_count, const nvmed_extent *extents, uint64_t extent_count) {
     if (!m || !sizes || (!limits && guests) || (!regions && region_count) || (!extents && extent_count)) return NVMED_NULL;
-    return (nvmed_status)nvmed_raw_new(m, sizes, (const uint32_t *)nvmed_some(limits, guests), guests,
+    return (nvmed_status)nvmed_raw_new(&m->handle, sizes, (const uint32_t *)nvmed_some(limits, guests), guests,
                                        (const nvmed_region *)nvmed_some(regions, region_count), region_count,
                                        (const nvmed_extent *)nvmed_some(extents, extent_count), extent_count);
 }
 
+/* The same for a host that has the memory and the drive: `memory` is where host address 0 is, of sizes->host_bytes bytes, and the host addresses are
+ * those that the drive uses. Guests' regions and the mediator's area lie in it; nothing else of it is touched, so the rest may be holes. The library
+ * keeps no pointer: this header lends the memory to each call. The drive may have any blocks, and the memory any bytes; the lanes' completion rings are
+ * cleared. SAFE, EXACT, CONTAINED and PRIVATE as nvmed_new.
+ * Errors: as of nvmed_new; BAD_SIZE, too, where host_bytes is above 2^47 or disk_blocks above 2^48. */
+static inline nvmed_status nvmed_serve(nvmed *m, void *memory, const nvmed_sizes *sizes, const uint32_t *limits, uint64_t guests,
+                                       const nvmed_region *regions, uint64_t region_count, const nvmed_extent *extents, uint64_t extent_count) {
+    nvmed_status status;
+    if (!m || !memory || !sizes || (!limits && guests) || (!regions && region_count) || (!extents && extent_count)) return NVMED_NULL;
+    if (sizes->host_bytes > (uint64_t)1 << 47) return NVMED_BAD_SIZE;
+    status = (nvmed_status)nvmed_raw_serve(&m->handle, sizes, (const uint32_t *)nvmed_some(limits, guests), guests,
+                                           (const nvmed_region *)nvmed_some(regions, region_count), region_count,
+                                           (const nvmed_extent *)nvmed_some(extents, extent_count), extent_count, (uint8_t *)memory,
+                                           sizes->host_bytes);
+    if (status == NVMED_OK) {
+        m->memory = (uint8_t *)memory;
+        m->bytes = sizes->host_bytes;
+    }
+    return status;
+}
+
 /* Gives back the mediator and all memory that it took. The handle holds none then, and may be used anew; views end. SAFE.
  * Errors: NULL, NO_MEDIATOR. */
-static inline nvmed_status nvmed_free(nvmed *m) { return m ? (nvmed_status)nvmed_raw_free(m) : NVMED_NULL; }
+static inline nvmed_status nvmed_free(nvmed *m) {
+    if (!m) return NVMED_NULL;
+    m->memory = NULL;
+    m->bytes = 0;
+    return (nvmed_status)nvmed_raw_free(&m->handle);
+}
 
 /* A guest stores `length` bytes from its address `address` on. It needs no memory. SAFE, EXACT, CONTAINED, PRIVATE.
  * Errors: NULL, NO_MEDIATOR, NO_SUCH, UNMAPPED (nothing is stored), IGNORED (no such guest). */
 static inline nvmed_status nvmed_store(nvmed *m, uint32_t guest, uint64_t address, const void *bytes, uint64_t length) {
     if (!m || (!bytes && length)) return NVMED_NULL;
-    return (nvmed_status)nvmed_raw_store(m, guest, address, (const uint8_t *)nvmed_some(bytes, length), length);
+    return (nvmed_status)nvmed_raw_store(&m->handle, guest, address, (const uint8_t *)nvmed_some(bytes, length), length, nvmed_lent(m), m->bytes);
 }
 
 /* A guest loads `length` bytes from its address `address` on. Nothing of the mediator changes. It needs no memory. SAFE, EXACT, CONTAINED, PRIVATE.
@@ -193,7 +261,7 @@ static inline nvmed_status nvmed_store(nvmed *m, uint32_t guest, uint64_t addres
 static inline nvmed_status nvmed_load(nvmed *m, uint32_t guest, uint64_t address, void *bytes, uint64_t length) {
     uint8_t none = 0;
     if (!m || (!bytes && length)) return NVMED_NULL;
-    return (nvmed_status)nvmed_raw_load(m, guest, address, length ? (uint8_t *)bytes : &none, length);
+    return (nvmed_status)nvmed_raw_load(&m->handle, guest, address, length ? (uint8_t *)bytes : &none, length, nvmed_lent(m), m->bytes);
 }
 
 /* A guest reads the 32 bits of the register at `offset`, a multiple of 4. Where there is no register they are 0. It needs no memory. SAFE, EXACT,
@@ -201,26 +269,26 @@ static inline nvmed_status nvmed_load(nvmed *m, uint32_t guest, uint64_t address
 static inline nvmed_status nvmed_reg_read(nvmed *m, uint32_t guest, uint32_t offset, uint32_t *value) {
     if (!m || !value) return NVMED_NULL;
     *value = 0;
-    return (nvmed_status)nvmed_raw_reg_read(m, guest, offset, value);
+    return (nvmed_status)nvmed_raw_reg_read(&m->handle, guest, offset, value, nvmed_lent(m), m->bytes);
 }
 
 /* A guest writes the 32 bits of the register at `offset`, a multiple of 4. It needs no memory. SAFE, EXACT, CONTAINED, PRIVATE.
  * Errors: NULL, NO_MEDIATOR, NO_SUCH, IGNORED (nothing there can be written, or not now, or there is no such guest). */
 static inline nvmed_status nvmed_reg_write(nvmed *m, uint32_t guest, uint32_t offset, uint32_t value) {
-    return m ? (nvmed_status)nvmed_raw_reg_write(m, guest, offset, value) : NVMED_NULL;
+    return m ? (nvmed_status)nvmed_raw_reg_write(&m->handle, guest, offset, value, nvmed_lent(m), m->bytes) : NVMED_NULL;
 }
 
 /* A guest writes the doorbell at `offset`, 4,096 and up. It needs no memory. SAFE, EXACT, CONTAINED, PRIVATE.
  * Errors: NULL, NO_MEDIATOR, NO_SUCH, IGNORED (no such queue, its controller is not ready, a value that is out of range, or no such guest). */
 static inline nvmed_status nvmed_doorbell(nvmed *m, uint32_t guest, uint32_t offset, uint32_t value) {
-    return m ? (nvmed_status)nvmed_raw_doorbell(m, guest, offset, value) : NVMED_NULL;
+    return m ? (nvmed_status)nvmed_raw_doorbell(&m->handle, guest, offset, value, nvmed_lent(m), m->bytes) : NVMED_NULL;
 }
 
 /* Carries out an event that is no guest's act: that of its kind, with the numbers that the kind looks at. SAFE, EXACT, CONTAINED, PRIVATE. After
  * DEV_FAIL of a guest's command PRIVATE says nothing of that guest. LIST, SUBMIT and DEV_TAKE may need memory; no other kind does.
  * Errors: NULL, NO_MEDIATOR, NO_SUCH, IDLE to IGNORED as the event has it, and NO_MEMORY of LIST, SUBMIT and DEV_TAKE alone. */
 static inline nvmed_status nvmed_step(nvmed *m, const nvmed_event *event) {
-    return m && event ? (nvmed_status)nvmed_raw_step(m, event) : NVMED_NULL;
+    return m && event ? (nvmed_status)nvmed_raw_step(&m->handle, event, nvmed_lent(m), m->bytes) : NVMED_NULL;
 }
 
 /* Whether an event is one of ADMIN, TAKE, DEV_TAKE, DEV_MOVE, DEV_POST, REAP and POST and would be done now: *due is 1 then, and else 0. Nothing
@@ -228,7 +296,7 @@ static inline nvmed_status nvmed_step(nvmed *m, const nvmed_event *event) {
 static inline nvmed_status nvmed_due(nvmed *m, const nvmed_event *event, uint32_t *due) {
     if (!m || !event || !due) return NVMED_NULL;
     *due = 0;
-    return (nvmed_status)nvmed_raw_due(m, event, due);
+    return (nvmed_status)nvmed_raw_due(&m->handle, event, due, nvmed_lent(m), m->bytes);
 }
 
 /* Carries out what is due of a guest (its admin commands; its commands that wait are taken and planned), of a lane (the physical controller's side,
@@ -241,7 +309,40 @@ static inline nvmed_status nvmed_due(nvmed *m, const nvmed_event *event, uint32_
 static inline nvmed_status nvmed_work(nvmed *m, uint32_t scope, uint32_t number, uint64_t most, uint64_t *done) {
     if (!m || !done) return NVMED_NULL;
     *done = 0;
-    return (nvmed_status)nvmed_raw_work(m, scope, number, most, done);
+    return (nvmed_status)nvmed_raw_work(&m->handle, scope, number, most, done, nvmed_lent(m), m->bytes);
+}
+
+/* Where a lane's rings lie and how long they are, for the host's Create I/O Queue commands; what the drive's doorbells are to have, which the host writes
+ * where they changed; and whether the lane was closed. SAFE, EXACT.
+ * Errors: NULL, NO_MEDIATOR, NO_SUCH (no such lane, or the drive is the library's own); *rings is as it was then. */
+static inline nvmed_status nvmed_rings(nvmed *m, uint32_t lane, nvmed_lane_rings *rings) {
+    if (!m || !rings) return NVMED_NULL;
+    return (nvmed_status)nvmed_raw_rings(&m->handle, lane, rings);
+}
+
+/* Which interrupts of a guest are pending: *count of its vectors, of queues in ascending order. A vector is pending where a completion queue has it, the
+ * queue's interrupts are enabled, and the queue has completions that the guest has not acknowledged by its doorbell. The admin queue has vector 0. It
+ * costs the same whatever there is. SAFE, EXACT.
+ * Errors: NULL, NO_MEDIATOR, NO_SUCH (above 255, or the mediator is a simulation), IGNORED (no such guest); *count is 0 then. */
+static inline nvmed_status nvmed_pending(nvmed *m, uint32_t guest, uint16_t vectors[NVMED_VECTORS], uint32_t *count) {
+    uint32_t queue, vector = 0;
+    nvmed_status status = NVMED_OK;
+    if (!m || !vectors || !count) return NVMED_NULL;
+    *count = 0;
+    for (queue = 0; queue < NVMED_VECTORS && (status == NVMED_OK || status == NVMED_IDLE); queue++) {
+        status = (nvmed_status)nvmed_raw_pending(&m->handle, guest, queue, &vector);
+        if (status == NVMED_OK) vectors[(*count)++] = (uint16_t)vector;
+    }
+    return status == NVMED_IDLE ? NVMED_OK : status;
+}
+
+/* Closes a lane, where the drive can't be relied on any more. The host has stopped the drive before. Completions that are there are read as long as they
+ * name commands; then each command of the lane that is on its way ends with Internal Error, as if the drive had failed it, which the guest may try
+ * again. Nothing is taken for the lane from then on; the other lanes go on. To use the drive again the host makes another mediator. It needs no memory.
+ * SAFE, EXACT, CONTAINED; PRIVATE says nothing of a guest that had a command there.
+ * Errors: NULL, NO_MEDIATOR, NO_SUCH (no such lane, or the drive is the library's own). */
+static inline nvmed_status nvmed_close(nvmed *m, uint32_t lane) {
+    return m ? (nvmed_status)nvmed_raw_close(&m->handle, lane, nvmed_lent(m), m->bytes) : NVMED_NULL;
 }
 
 /* Shows bytes of a guest's memory from its address `address` on, to be read: *at is where the first lies, and *count how many there are. Of `length`
@@ -258,7 +359,7 @@ static inline nvmed_status nvmed_memory(nvmed *m, uint32_t guest, uint64_t addre
     if (!m || (!room && length) || !at || !count) return NVMED_NULL;
     *at = NULL;
     *count = 0;
-    return (nvmed_status)nvmed_raw_memory(m, guest, address, length ? (uint8_t *)room : &none, length, at, count);
+    return (nvmed_status)nvmed_raw_memory(&m->handle, guest, address, length ? (uint8_t *)room : &none, length, at, count);
 }
 
 /* Where the 512 bytes of a block of the disk lie, to be read. They are there as long as those that nvmed_memory shows. SAFE, EXACT (as nvmed_memory).
@@ -266,7 +367,7 @@ static inline nvmed_status nvmed_memory(nvmed *m, uint32_t guest, uint64_t addre
 static inline nvmed_status nvmed_block(nvmed *m, uint64_t block, const uint8_t **at) {
     if (!m || !at) return NVMED_NULL;
     *at = NULL;
-    return (nvmed_status)nvmed_raw_block(m, block, at);
+    return (nvmed_status)nvmed_raw_block(&m->handle, block, at);
 }
 
 /* Whether a block of the disk is kept when power is lost: *kept is 1 then, and else 0. SAFE, EXACT.
@@ -274,7 +375,7 @@ static inline nvmed_status nvmed_block(nvmed *m, uint64_t block, const uint8_t *
 static inline nvmed_status nvmed_kept(nvmed *m, uint64_t block, uint32_t *kept) {
     if (!m || !kept) return NVMED_NULL;
     *kept = 0;
-    return (nvmed_status)nvmed_raw_kept(m, block, kept);
+    return (nvmed_status)nvmed_raw_kept(&m->handle, block, kept);
 }
 
 #ifdef __cplusplus

@@ -1,17 +1,20 @@
 -- What a call from C returns, and what it does to the mediator of a handle.
-use Rattle.std.specs.Prelude.{◌≡◌, ◌⊎◌, ◌<◌, ◌≤◌, ◌==◌, ℕ, Bool, if◌then◌else◌, length, slice_get, IsSome, IsTrue, List, Option, Some, None}
+use Rattle.std.specs.Prelude.{◌≡◌, ◌≢◌, ◌⊎◌, ◌<◌, ◌≤◌, ◌==◌, ℕ, Bool, if◌then◌else◌, length, slice_get, IsSome, IsTrue, ⊤, List, Option, Some, None}
 use Rattle.std.specs.Borrow.{Bor}
 use Rattle.std.specs.Int.{from_le_bytes, w32}
 use Rattle.std.specs.Ptr.{Ptr, as_ptr}
 use Rattle.nv_core.specs.Seat.{bytes_told}
 use Rattle.nv_core.specs.Shown.{IsBlock, mark_shown}
 use Rattle.nv_c.specs.declared.event.Event as c
+use Rattle.nv_c.specs.declared.held.Held.{Held}
+use Rattle.nv_c.specs.declared.held.Held.TheVariants.{Serving, Simulated}
 use Rattle.nv_c.specs.Names.{Names}
-use Rattle.nv_c.specs.Promise.{IsPromised}
+use Rattle.nv_c.specs.Promise.{IsKept}
 use Rattle.nv_c.specs.Work.{IsWorkedFor}
 use Rattle.nv_c.specs.declared.working.Scope.{Scope}
 use Rattle.nv_c.specs.declared.working.Why.{Why}
 use Rattle.nv_c.specs.declared.working.Why.TheVariants as why
+use Rattle.nv_host.specs.Served.{AreRingsAlone, IsAtStart as IsFirst, Served}
 use Rattle.nv_mediator.specs.Hosted.{Hosted, IsAtStart, IsMade, hosted_world, may_want}
 use Rattle.nv_mediator.specs.Refused.{refused}
 use Rattle.nv_mediator.specs.declared.refusal.Refusal.{Refusal}
@@ -23,7 +26,7 @@ use Rattle.nv_model.specs.declared.reply.Reply.{Reply}
 use Rattle.nv_model.specs.declared.reply.Reply.TheVariants as reply
 use Rattle.nv_world_model.specs.declared.event.Event.{Event}
 use Rattle.nv_world_model.specs.Geometry.{Guest}
-use Rattle.nv_world_model.specs.SetUp.{SetUp, refusal_of}
+use Rattle.nv_world_model.specs.SetUp.{Refusal as Reason, SetUp, host_refusal_of, refusal_of}
 use Rattle.nv_world_model.specs.Due.{due}
 
 -- ---- the numbers of `enum nvmed_status`, as the header has them
@@ -81,6 +84,15 @@ in_use = 17
 
 abbrev pub no_such : ℕ
 no_such = 18
+
+abbrev pub other_memory : ℕ
+other_memory = 20
+
+abbrev pub closed : ℕ
+closed = 21
+
+abbrev pub stray : ℕ
+stray = 22
 
 -- any of them but NVMED_OK: what a call was to hand out is then not there
 abbrev pub IsError : (status : ℕ) → Type 0
@@ -188,16 +200,39 @@ IsBlockTold block at old status new =
     × ((status ≡ ok) × ((shown : Bor (List ℕ)) × IsBlockShown old block shown at)
     ⊎ (status ≡ no_such) × (old.geometry.disk_blocks ≤ block))
 
+-- what a call does to a mediator that is lent the host's memory, where that is as long as the set-up says; and else it does nothing
+abbrev pub Lent : (Serves : List ℕ → List ℕ → Served → ℕ → Served → Type 0) → (lent left : List ℕ) → (old : Served) → (status : ℕ) → (new : Served) → Type 0
+Lent Serves lent left old status new =
+    (length lent ≡ old.setup.host_bytes) × (length left ≡ length lent) × Serves lent left old status new
+    ⊎ (length lent ≢ old.setup.host_bytes) × (status ≡ other_memory) × (new ≡ old) × (left ≡ lent)
+
+-- a call does this to a mediator that has a memory of its own, and that to one that is lent the host's. It never turns one into the other
+abbrev pub Either : (Does : Hosted → ℕ → Hosted → Type 0) → (Serves : Served → ℕ → Served → Type 0) → (old : Held) → (status : ℕ) → (new : Held) → Type 0
+Either Does Serves (Simulated old) status (Simulated new) = Does old status new
+Either Does Serves (Simulated old) status (Serving new) = ⊥
+Either Does Serves (Serving old) status (Serving new) = Serves old status new
+Either Does Serves (Serving old) status (Simulated new) = ⊥
+
+-- it has no memory or disk of its own to be shown
+abbrev pub HasNone : (old : Served) → (status : ℕ) → (new : Served) → Type 0
+HasNone old status new = (status ≡ no_such) × (new ≡ old)
+
 -- what is done to the mediator of a handle, of which the promise holds afterwards; a handle without one is answered so, and stays without
-abbrev pub On : (Does : Hosted → ℕ → Hosted → Type 0) → (before : Option Hosted) → (status : ℕ) → (after : Option Hosted) → Type 0
+abbrev pub On : (Does : Held → ℕ → Held → Type 0) → (before : Option Held) → (status : ℕ) → (after : Option Held) → Type 0
 On Does before status after =
     (before ≡ None) × (after ≡ None) × (status ≡ no_mediator)
-    ⊎ ((old : Hosted) × (new : Hosted) × (before ≡ Some old) × (after ≡ Some new) × Does old status new × IsPromised new)
+    ⊎ ((old : Held) × (new : Held) × (before ≡ Some old) × (after ≡ Some new) × Does old status new × IsKept new)
 
--- a call that names a guest; a number above 255 alone is answered so, and nothing is done
-abbrev pub OfGuest : (number : ℕ) → (Does : Hosted → ℕ → Hosted → Type 0) → (before : Option Hosted) → (status : ℕ) → (after : Option Hosted) → Type 0
+-- a call that names a guest or a lane; a number above 255 alone is answered so, and nothing is done
+abbrev pub OfGuest : (number : ℕ) → (Does : Held → ℕ → Held → Type 0) → (before : Option Held) → (status : ℕ) → (after : Option Held) → Type 0
 OfGuest number Does before status after =
     (256 ≤ number) × (status ≡ no_such) × (after ≡ before) ⊎ (number < 256) × On Does before status after
+
+-- the memory that is lent is left as it was, but by a mediator that is lent it
+abbrev pub IsLeft : Option Held → (lent left : List ℕ) → Type 0
+IsLeft None lent left = left ≡ lent
+IsLeft (Some (Simulated h)) lent left = left ≡ lent
+IsLeft (Some (Serving h)) lent left = ⊤
 
 -- what a guest was to have was refused, and the answer gives a reason that holds: there was no memory, or its regions are no map
 abbrev pub IsGuestRefused : Guest → (status : ℕ) → Type 0
@@ -205,17 +240,27 @@ IsGuestRefused guest status =
     (status ≡ no_memory)
     ⊎ ((error : MapError) × (map_refused guest.memory_map.host_len guest.memory_map.regions ≡ Some error) × (status ≡ status_of_map error))
 
--- so was a set-up: a guest's part of it, or the whole
-abbrev pub IsRefused : SetUp → (status : ℕ) → Type 0
-IsRefused s status =
+-- so was a set-up: a guest's part of it, or the whole, by these limits
+abbrev pub IsRefused : (refusals : SetUp → Option Reason) → SetUp → (status : ℕ) → Type 0
+IsRefused refusals s status =
     (status ≡ no_memory)
     ⊎ ((number : ℕ) × (guest : Guest) × (slice_get s.geometry.guests number ≡ Some guest) × IsGuestRefused guest status)
-    ⊎ ((reason : Refusal) × (refused (refusal_of s) ≡ Some reason) × (status ≡ status_of_refusal reason))
+    ⊎ ((reason : Refusal) × (refused (refusals s) ≡ Some reason) × (status ≡ status_of_refusal reason))
 
--- a handle that held no mediator holds one at the start of the set-up, which was accepted, and the promise holds of it; or it stays without, since
--- the set-up was refused; one that held one keeps it
-abbrev pub IsOpened : SetUp → (before : Option Hosted) → (status : ℕ) → (after : Option Hosted) → Type 0
+-- a handle that held no mediator holds one with a memory of its own at the start of the set-up, which was accepted, and the promise holds of it; or it
+-- stays without, since the set-up was refused; one that held one keeps it
+abbrev pub IsOpened : SetUp → (before : Option Held) → (status : ℕ) → (after : Option Held) → Type 0
 IsOpened s before status after =
-    ((status ≡ ok) × (before ≡ None) × (refusal_of s ≡ None) × ((h : Hosted) × (after ≡ Some h) × IsAtStart s h × IsPromised h))
-    ⊎ ((before ≡ None) × (after ≡ None) × IsRefused s status)
+    ((status ≡ ok) × (before ≡ None) × (refusal_of s ≡ None) × ((h : Hosted) × (after ≡ Some (Simulated h)) × IsAtStart s h × IsKept (Simulated h)))
+    ⊎ ((before ≡ None) × (after ≡ None) × IsRefused refusal_of s status)
     ⊎ (IsSome before × (after ≡ before) × (status ≡ in_use))
+
+-- the same with one that is lent the host's memory, by the limits of a host; the memory that is lent is as long as the set-up says, and no byte of it
+-- changes but in the lanes' completion rings
+abbrev pub IsServing : SetUp → (lent left : List ℕ) → (before : Option Held) → (status : ℕ) → (after : Option Held) → Type 0
+IsServing s lent left before status after =
+    ((status ≡ ok) × (before ≡ None) × (length lent ≡ s.host_bytes) × AreRingsAlone s lent left
+    × ((h : Served) × (after ≡ Some (Serving h)) × IsFirst s h left × IsKept (Serving h)))
+    ⊎ ((before ≡ None) × (after ≡ None) × ((left ≡ lent) ⊎ AreRingsAlone s lent left) × IsRefused host_refusal_of s status)
+    ⊎ ((before ≡ None) × (after ≡ None) × (left ≡ lent) × (length lent ≢ s.host_bytes) × (status ≡ other_memory))
+    ⊎ (IsSome before × (after ≡ before) × (left ≡ lent) × (status ≡ in_use))

@@ -2,8 +2,8 @@
 
 ghost use Rattle.std.specs.Prelude.{◌≡◌, MatchOption, Option, None, Some};
 ghost use Rattle.nv_c.specs.Held.{hosted_coded};
-ghost use Rattle.nv_c.specs.Promise.{IsPromised};
-ghost use Rattle.nv_mediator.specs.Hosted.{Hosted};
+ghost use Rattle.nv_c.specs.Promise.{IsKept};
+ghost use Rattle.nv_c.specs.declared.held.Held.{Held as Hosted};
 
 mod parts;
 
@@ -42,9 +42,9 @@ impl Nvmed {
     /// Puts a mediator into the handle, with what is promised of it. What it held before is given back.
     pub(crate) fn put(&mut self, alloc: Global, hosted: Box<Held>)
         ensures held { self.new.hosted ≡ Some hosted.value }
-        ensures promised { IsPromised hosted.value }
+        ensures promised { IsKept hosted.value }
     {
-        hosted.mediator.promise();
+        hosted.promise();
         let before = mem::replace(self, Nvmed::of_parts(Parts::of(hosted)));
         if let Some(parts) = before.into_parts(alloc) {
             drop(parts.into_box());

@@ -1,35 +1,27 @@
 //! What a handle holds.
 
-use crate::kept::Kept;
-use nv_mediator::Mediator;
-use std::alloc::Global;
-use std::marker::Model;
+ghost use Rattle.nv_c.specs.Promise.{IsKept};
 
-/// A mediator, and beside it the plans that were put aside. A contract sees the mediator.
+use crate::simulated::Simulated;
+use nv_host::HostMediator;
+
+/// A mediator of either kind.
 #[derive(Drop)]
-pub struct Held {
-    pub(crate) mediator: Mediator,
-    pub(crate) kept: Kept,
-}
-
-impl Model for Held {
-    ghost use Rattle.nv_mediator.specs.Hosted.{Hosted};
-
-    ghost Value = { Hosted };
-
-    ghost view = { λ h. h.mediator };
+pub enum Held {
+    /// It has a memory and a disk of its own.
+    Simulated(Simulated),
+    /// Each call is lent the host's memory, and the drive is the host's.
+    Serving(HostMediator),
 }
 
 impl Held {
-    ghost use Rattle.std.specs.Prelude.{◌≡◌};
-
-    /// A mediator of which no plan was put aside.
-    pub(crate) fn new(alloc: Global, mediator: Mediator) -> Self
-        ensures { result ≡ mediator }
+    /// What is promised of the mediator; it does nothing.
+    pub(crate) fn promise(&self)
+        ensures { IsKept self.now }
     {
-        Held {
-            mediator,
-            kept: Kept::none(alloc),
+        match self {
+            Held::Simulated(simulated) => simulated.mediator.promise(),
+            Held::Serving(mediator) => mediator.promise(),
         }
     }
 }

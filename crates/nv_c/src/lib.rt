@@ -18,9 +18,11 @@
 #![tactic(auto)]
 
 ghost use Rattle.std.specs.Prelude.{◌≡◌, ◌⊎◌, IsSome, MatchOption, None, length};
-ghost use Rattle.nv_c.specs.Calls.{IsBlockTold, IsDone, IsError, IsKeptTold, IsLoaded, IsNamedStep, IsNamedTold, IsOpened, IsRead, IsStepped, IsWorkTold};
-ghost use Rattle.nv_c.specs.Calls.{OfGuest, On, no_mediator, no_such};
+ghost use Rattle.nv_c.specs.Calls.{Either, HasNone, IsBlockTold, IsDone, IsError, IsKeptTold, IsLeft, IsLoaded, IsNamedStep, IsNamedTold, IsOpened};
+ghost use Rattle.nv_c.specs.Calls.{IsRead, IsServing, IsStepped, IsWorkTold, Lent, OfGuest, On, no_mediator, no_such};
 ghost use Rattle.nv_c.specs.Names.{NamesNone};
+ghost use Rattle.nv_c.specs.Serving.{IsLoaded as IsLoadedLent, IsNamedStep as IsNamedStepLent, IsNamedTold as IsNamedToldLent, IsRead as IsReadLent};
+ghost use Rattle.nv_c.specs.Serving.{HasNoLane, HasNoRings, HasNoVector, IsClosed, IsRaisedTold, IsRingsTold, IsServed, IsStepped as IsSteppedLent};
 ghost use Rattle.nv_c.specs.Tables.{setup_of};
 ghost use Rattle.nv_c.specs.Views.{IsShown};
 ghost use Rattle.nv_c.specs.Work.{scope_numbered};
@@ -29,30 +31,37 @@ mod acting;
 mod event;
 mod handle;
 mod held;
+mod interrupts;
 mod kept;
 mod reading;
+mod rings;
+mod serving;
 mod setup;
 mod showing;
+mod simulated;
 mod status;
 mod working;
 
 pub use event::Event;
 pub use handle::Nvmed;
 use held::Held;
+use nv_host::HostMediator;
 use nv_mediator::Mediator;
 use nv_model::Act;
 use nv_world_model::Event as Made;
+pub use rings::Rings;
 pub use setup::{GuestExtent, Region, Sizes};
+use simulated::Simulated;
 use std::alloc::Global;
 use working::Scope;
 
-/// Version 1.0.
-const VERSION: u32 = 65_536;
+/// Version 2.0.
+const VERSION: u32 = 131_072;
 
 /// The version of the interface: its major number times 65,536, plus its minor number.
 #[unsafe(no_mangle)]
 pub extern "C" fn nvmed_raw_version() -> u32
-    ensures { result ≡ 65536 }
+    ensures { result ≡ 131072 }
 {
     VERSION
 }
@@ -81,10 +90,46 @@ pub extern "C" fn nvmed_raw_new(
         Ok(mediator) => mediator,
         Err(refusal) => return status::of_refusal(refusal),
     };
-    let Ok(hosted) = Box::new(alloc, Held::new(alloc, mediator)) else {
+    let held = Held::Simulated(Simulated::new(alloc, mediator));
+    let Ok(held) = Box::new(alloc, held) else {
         return status::NO_MEMORY;
     };
-    handle.put(alloc, hosted);
+    handle.put(alloc, held);
+    status::OK
+}
+
+/// Makes the mediator of a set-up that is lent the host's memory, and puts it into a handle that holds none. There are as many guests as limits.
+#[unsafe(no_mangle)]
+pub extern "C" fn nvmed_raw_serve(
+    alloc: Global,
+    handle: &mut Nvmed,
+    sizes: &Sizes,
+    limits: &[u32],
+    regions: &[Region],
+    extents: &[GuestExtent],
+    memory: &mut [u8],
+) -> u32
+    ensures { IsServing (setup_of sizes.now limits.now regions.now extents.now) memory.old memory.new handle.old.hosted result handle.new.hosted }
+{
+    if let Some(held) = handle.take(alloc) {
+        handle.put(alloc, held);
+        return status::IN_USE;
+    }
+    if memory.len() as u64 != sizes.host_bytes {
+        return status::OTHER_MEMORY;
+    }
+    let setup = match setup::setup_of(alloc, sizes, limits, regions, extents) {
+        Ok(setup) => setup,
+        Err(answer) => return answer,
+    };
+    let mediator = match HostMediator::new(alloc, setup, memory) {
+        Ok(mediator) => mediator,
+        Err(refusal) => return status::of_refusal(refusal),
+    };
+    let Ok(held) = Box::new(alloc, Held::Serving(mediator)) else {
+        return status::NO_MEMORY;
+    };
+    handle.put(alloc, held);
     status::OK
 }
 
@@ -111,11 +156,14 @@ pub extern "C" fn nvmed_raw_store(
     guest: u32,
     address: u64,
     bytes: &[u8],
+    memory: &mut [u8],
 ) -> u32
-    ensures { OfGuest guest (IsDone (Made.Guest guest (Act.Store address bytes.now))) handle.old.hosted result handle.new.hosted }
+    ensures value { OfGuest guest (Either (IsDone (Made.Guest guest (Act.Store address bytes.now)))
+        (Lent (IsServed (Made.Guest guest (Act.Store address bytes.now))) memory.old memory.new)) handle.old.hosted result handle.new.hosted }
+    ensures left { IsLeft handle.old.hosted memory.old memory.new }
 {
     match event::byte(guest) {
-        Some(guest) => acting::store(alloc, handle, guest, address, bytes),
+        Some(guest) => acting::store(alloc, handle, guest, address, bytes, memory),
         None => status::NO_SUCH,
     }
 }
@@ -128,12 +176,15 @@ pub extern "C" fn nvmed_raw_load(
     guest: u32,
     address: u64,
     room: &mut [u8],
+    memory: &[u8],
 ) -> u32
-    ensures value { OfGuest guest (IsLoaded (Made.Guest guest (Act.Load address (length room.old))) room.old room.new) handle.old.hosted result handle.new.hosted }
+    ensures value { OfGuest guest (Either (IsLoaded (Made.Guest guest (Act.Load address (length room.old))) room.old room.new)
+        (Lent (IsLoadedLent (Made.Guest guest (Act.Load address (length room.old))) room.old room.new) memory.now memory.now))
+        handle.old.hosted result handle.new.hosted }
     ensures unchanged { IsError result → room.new ≡ room.old }
 {
     match event::byte(guest) {
-        Some(guest) => acting::load(alloc, handle, guest, address, room),
+        Some(guest) => acting::load(alloc, handle, guest, address, room, memory),
         None => status::NO_SUCH,
     }
 }
@@ -146,12 +197,15 @@ pub extern "C" fn nvmed_raw_reg_read(
     guest: u32,
     offset: u32,
     value: &mut u32,
+    memory: &mut [u8],
 ) -> u32
-    ensures value { OfGuest guest (IsRead (Made.Guest guest (Act.RegRead offset)) value.new) handle.old.hosted result handle.new.hosted }
+    ensures value { OfGuest guest (Either (IsRead (Made.Guest guest (Act.RegRead offset)) value.new)
+        (Lent (IsReadLent (Made.Guest guest (Act.RegRead offset)) value.new) memory.old memory.new)) handle.old.hosted result handle.new.hosted }
     ensures none { IsError result → (value.new ≡ value.old) ⊎ (value.new ≡ 0) }
+    ensures left { IsLeft handle.old.hosted memory.old memory.new }
 {
     match event::byte(guest) {
-        Some(guest) => acting::reg_read(alloc, handle, guest, offset, value),
+        Some(guest) => acting::reg_read(alloc, handle, guest, offset, value, memory),
         None => status::NO_SUCH,
     }
 }
@@ -164,14 +218,18 @@ pub extern "C" fn nvmed_raw_reg_write(
     guest: u32,
     offset: u32,
     value: u32,
+    memory: &mut [u8],
 ) -> u32
-    ensures { OfGuest guest (IsStepped (Made.Guest guest (Act.RegWrite offset value))) handle.old.hosted result handle.new.hosted }
+    ensures value { OfGuest guest (Either (IsStepped (Made.Guest guest (Act.RegWrite offset value)))
+        (Lent (IsSteppedLent (Made.Guest guest (Act.RegWrite offset value))) memory.old memory.new)) handle.old.hosted result handle.new.hosted }
+    ensures left { IsLeft handle.old.hosted memory.old memory.new }
 {
     match event::byte(guest) {
         Some(guest) => acting::step(
             alloc,
             handle,
             &Made::Guest(guest, Act::RegWrite { offset, value }),
+            memory,
         ),
         None => status::NO_SUCH,
     }
@@ -185,14 +243,18 @@ pub extern "C" fn nvmed_raw_doorbell(
     guest: u32,
     offset: u32,
     value: u32,
+    memory: &mut [u8],
 ) -> u32
-    ensures { OfGuest guest (IsStepped (Made.Guest guest (Act.Doorbell offset value))) handle.old.hosted result handle.new.hosted }
+    ensures value { OfGuest guest (Either (IsStepped (Made.Guest guest (Act.Doorbell offset value)))
+        (Lent (IsSteppedLent (Made.Guest guest (Act.Doorbell offset value))) memory.old memory.new)) handle.old.hosted result handle.new.hosted }
+    ensures left { IsLeft handle.old.hosted memory.old memory.new }
 {
     match event::byte(guest) {
         Some(guest) => acting::step(
             alloc,
             handle,
             &Made::Guest(guest, Act::Doorbell { offset, value }),
+            memory,
         ),
         None => status::NO_SUCH,
     }
@@ -200,12 +262,18 @@ pub extern "C" fn nvmed_raw_doorbell(
 
 /// Carries out an event that is no guest's act.
 #[unsafe(no_mangle)]
-pub extern "C" fn nvmed_raw_step(alloc: Global, handle: &mut Nvmed, event: &Event) -> u32
-    ensures { NamesNone event.now × (result ≡ no_such) × (handle.new.hosted ≡ handle.old.hosted)
-        ⊎ On (IsNamedStep event.now) handle.old.hosted result handle.new.hosted }
+pub extern "C" fn nvmed_raw_step(
+    alloc: Global,
+    handle: &mut Nvmed,
+    event: &Event,
+    memory: &mut [u8],
+) -> u32
+    ensures value { NamesNone event.now × (result ≡ no_such) × (handle.new.hosted ≡ handle.old.hosted)
+        ⊎ On (Either (IsNamedStep event.now) (Lent (IsNamedStepLent event.now) memory.old memory.new)) handle.old.hosted result handle.new.hosted }
+    ensures left { IsLeft handle.old.hosted memory.old memory.new }
 {
     match event::made_of(event) {
-        Some(event) => acting::step(alloc, handle, &event),
+        Some(event) => acting::step(alloc, handle, &event, memory),
         None => status::NO_SUCH,
     }
 }
@@ -217,15 +285,17 @@ pub extern "C" fn nvmed_raw_due(
     handle: &mut Nvmed,
     event: &Event,
     due: &mut u32,
+    memory: &[u8],
 ) -> u32
     ensures value { NamesNone event.now × (result ≡ no_such) × (handle.new.hosted ≡ handle.old.hosted)
-        ⊎ On (IsNamedTold event.now due.new) handle.old.hosted result handle.new.hosted }
+        ⊎ On (Either (IsNamedTold event.now due.new) (Lent (IsNamedToldLent event.now due.new) memory.now memory.now))
+        handle.old.hosted result handle.new.hosted }
     ensures unchanged { IsError result → due.new ≡ due.old }
 {
     let Some(event) = event::made_of(event) else {
         return status::NO_SUCH;
     };
-    acting::due(alloc, handle, &event, due)
+    acting::due(alloc, handle, &event, due, memory)
 }
 
 /// Carries out what is due of a guest (scope 1), of a lane (2) or of all (3), `most` events at most, and returns how many there were. Where there
@@ -240,11 +310,64 @@ pub extern "C" fn nvmed_raw_work(
     done: &mut u64,
 ) -> u32
     ensures value { MatchOption (scope_numbered scope number) ((result ≡ no_such) × (handle.new.hosted ≡ handle.old.hosted) × (done.new ≡ done.old))
-        (λ s. On (IsWorkTold s most done.new) handle.old.hosted result handle.new.hosted) }
+        (λ s. On (Either (IsWorkTold s most done.new) HasNone) handle.old.hosted result handle.new.hosted) }
     ensures none { handle.old.hosted ≡ None → done.new ≡ done.old }
 {
     match Scope::of(scope, number) {
         Some(scope) => acting::work(alloc, handle, scope, most, done),
+        None => status::NO_SUCH,
+    }
+}
+
+/// Where a lane's rings lie, and what their doorbells are to have. After an error they are as they were.
+#[unsafe(no_mangle)]
+pub extern "C" fn nvmed_raw_rings(
+    alloc: Global,
+    handle: &mut Nvmed,
+    lane: u32,
+    rings: &mut Rings,
+) -> u32
+    ensures value { OfGuest lane (Either (HasNoRings rings.old rings.new) (IsRingsTold lane rings.old rings.new)) handle.old.hosted result handle.new.hosted }
+    ensures unchanged { IsError result → rings.new ≡ rings.old }
+{
+    match event::byte(lane) {
+        Some(lane) => rings::report(alloc, handle, lane, rings),
+        None => status::NO_SUCH,
+    }
+}
+
+/// The vector that the completion queue of that number, 0 to 8, raises for a guest. After an error the vector is as it was.
+#[unsafe(no_mangle)]
+pub extern "C" fn nvmed_raw_pending(
+    alloc: Global,
+    handle: &mut Nvmed,
+    guest: u32,
+    queue: u32,
+    vector: &mut u32,
+) -> u32
+    ensures value { OfGuest guest (Either (HasNoVector vector.old vector.new) (IsRaisedTold guest queue vector.old vector.new))
+        handle.old.hosted result handle.new.hosted }
+    ensures unchanged { IsError result → vector.new ≡ vector.old }
+{
+    match event::byte(guest) {
+        Some(guest) => interrupts::vector(alloc, handle, guest, queue, vector),
+        None => status::NO_SUCH,
+    }
+}
+
+/// Closes a lane.
+#[unsafe(no_mangle)]
+pub extern "C" fn nvmed_raw_close(
+    alloc: Global,
+    handle: &mut Nvmed,
+    lane: u32,
+    memory: &mut [u8],
+) -> u32
+    ensures value { OfGuest lane (Either HasNoLane (Lent (IsClosed lane) memory.old memory.new)) handle.old.hosted result handle.new.hosted }
+    ensures left { IsLeft handle.old.hosted memory.old memory.new }
+{
+    match event::byte(lane) {
+        Some(lane) => rings::close(alloc, handle, lane, memory),
         None => status::NO_SUCH,
     }
 }
@@ -261,7 +384,7 @@ pub extern "C" fn nvmed_raw_memory(
     at: &mut *const u8,
     count: &mut u64,
 ) -> u32
-    ensures value { OfGuest guest (IsShown guest address (length room.old) at.old at.new count.new) handle.old.hosted result handle.new.hosted }
+    ensures value { OfGuest guest (Either (IsShown guest address (length room.old) at.old at.new count.new) HasNone) handle.old.hosted result handle.new.hosted }
     ensures unchanged { IsError result → (at.new ≡ at.old) × (count.new ≡ count.old) }
 {
     match event::byte(guest) {
@@ -278,7 +401,7 @@ pub extern "C" fn nvmed_raw_block(
     block: u64,
     at: &mut *const u8,
 ) -> u32
-    ensures value { On (IsBlockTold block at.new) handle.old.hosted result handle.new.hosted }
+    ensures value { On (Either (IsBlockTold block at.new) HasNone) handle.old.hosted result handle.new.hosted }
     ensures unchanged { IsError result → at.new ≡ at.old }
 {
     showing::block(alloc, handle, block, at)
@@ -292,19 +415,8 @@ pub extern "C" fn nvmed_raw_kept(
     block: u64,
     kept: &mut u32,
 ) -> u32
-    ensures value { On (IsKeptTold block kept.new) handle.old.hosted result handle.new.hosted }
+    ensures value { On (Either (IsKeptTold block kept.new) HasNone) handle.old.hosted result handle.new.hosted }
     ensures unchanged { IsError result → kept.new ≡ kept.old }
 {
-    let Some(hosted) = handle.take(alloc) else {
-        return status::NO_MEDIATOR;
-    };
-    let answer = match hosted.mediator.kept(block) {
-        Some(is) => {
-            *kept = u32::from(is);
-            status::OK
-        }
-        None => status::NO_SUCH,
-    };
-    handle.put(alloc, hosted);
-    answer
+    showing::kept(alloc, handle, block, kept)
 }

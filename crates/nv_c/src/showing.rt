@@ -2,10 +2,11 @@
 
 ghost use Rattle.std.specs.Prelude.{◌≡◌, ◌≤◌, IfErr, IfOk, MatchOption, length};
 ghost use Rattle.std.specs.Ptr.{as_ptr};
-ghost use Rattle.nv_c.specs.Calls.{IsBlockShown, IsBlockTold, IsError, On};
+ghost use Rattle.nv_c.specs.Calls.{Either, HasNone, IsBlockShown, IsBlockTold, IsError, IsKeptTold, On};
 ghost use Rattle.nv_c.specs.Views.{IsHandedOut, IsNoView, IsShown, IsView};
 
 use crate::handle::Nvmed;
+use crate::held::Held;
 use crate::status;
 use nv_mediator::Mediator;
 use nv_model::limits::BLOCK_SIZE;
@@ -23,34 +24,93 @@ pub(crate) fn memory(
     at: &mut *const u8,
     count: &mut u64,
 ) -> u32
-    ensures value { On (IsShown guest address (length room.old) at.old at.new count.new) handle.old.hosted result handle.new.hosted }
+    ensures value { On (Either (IsShown guest address (length room.old) at.old at.new count.new) HasNone) handle.old.hosted result handle.new.hosted }
     ensures unchanged { IsError result → (at.new ≡ at.old) × (count.new ≡ count.old) }
 {
-    let Some(hosted) = handle.take(alloc) else {
+    let Some(held) = handle.take(alloc) else {
         return status::NO_MEDIATOR;
     };
-    let answer = match shown(&hosted.mediator, guest, address, room, at, count) {
+    let answer = memory_of(&held, guest, address, room, at, count);
+    handle.put(alloc, held);
+    answer
+}
+
+// What is shown of the memory that a mediator has of its own.
+fn memory_of(
+    held: &Held,
+    guest: u8,
+    address: u64,
+    room: &mut [u8],
+    at: &mut *const u8,
+    count: &mut u64,
+) -> u32
+    ensures value { Either (IsShown guest address (length room.old) at.old at.new count.new) HasNone held.now result held.now }
+    ensures unchanged { IsError result → (at.new ≡ at.old) × (count.new ≡ count.old) }
+{
+    let Held::Simulated(simulated) = held else {
+        return status::NO_SUCH;
+    };
+    match shown(&simulated.mediator, guest, address, room, at, count) {
         Ok(_bytes) => status::OK,
         Err(answer) => answer,
-    };
-    handle.put(alloc, hosted);
-    answer
+    }
 }
 
 /// Shows a block of the disk: what it is answered, and where its first byte is. After an error the pointer is as it was.
 pub(crate) fn block(alloc: Global, handle: &mut Nvmed, block: u64, at: &mut *const u8) -> u32
-    ensures value { On (IsBlockTold block at.new) handle.old.hosted result handle.new.hosted }
+    ensures value { On (Either (IsBlockTold block at.new) HasNone) handle.old.hosted result handle.new.hosted }
     ensures unchanged { IsError result → at.new ≡ at.old }
 {
-    let Some(hosted) = handle.take(alloc) else {
+    let Some(held) = handle.take(alloc) else {
         return status::NO_MEDIATOR;
     };
-    let answer = match block_shown(&hosted.mediator, block, at) {
+    let answer = block_of(&held, block, at);
+    handle.put(alloc, held);
+    answer
+}
+
+// What is shown of the disk that a mediator has of its own.
+fn block_of(held: &Held, block: u64, at: &mut *const u8) -> u32
+    ensures value { Either (IsBlockTold block at.new) HasNone held.now result held.now }
+    ensures unchanged { IsError result → at.new ≡ at.old }
+{
+    let Held::Simulated(simulated) = held else {
+        return status::NO_SUCH;
+    };
+    match block_shown(&simulated.mediator, block, at) {
         Some(_bytes) => status::OK,
         None => status::NO_SUCH,
+    }
+}
+
+/// Whether a block of the disk is kept: what it is answered, and 1 where it is or 0 where it isn't. After an error the answer is as it was.
+pub(crate) fn kept(alloc: Global, handle: &mut Nvmed, block: u64, kept: &mut u32) -> u32
+    ensures value { On (Either (IsKeptTold block kept.new) HasNone) handle.old.hosted result handle.new.hosted }
+    ensures unchanged { IsError result → kept.new ≡ kept.old }
+{
+    let Some(held) = handle.take(alloc) else {
+        return status::NO_MEDIATOR;
     };
-    handle.put(alloc, hosted);
+    let answer = kept_of(&held, block, kept);
+    handle.put(alloc, held);
     answer
+}
+
+// Whether a block is kept of the disk that a mediator has of its own.
+fn kept_of(held: &Held, block: u64, kept: &mut u32) -> u32
+    ensures value { Either (IsKeptTold block kept.new) HasNone held.now result held.now }
+    ensures unchanged { IsError result → kept.new ≡ kept.old }
+{
+    let Held::Simulated(simulated) = held else {
+        return status::NO_SUCH;
+    };
+    match simulated.mediator.kept(block) {
+        Some(is) => {
+            *kept = u32::from(is);
+            status::OK
+        }
+        None => status::NO_SUCH,
+    }
 }
 
 // A view of a guest's memory, whose place and length are handed out; or what is answered where there is none.

@@ -10,7 +10,7 @@ use nv_model::Reply;
 /// It was done.
 pub(crate) const OK: u32 = 0;
 /// There is nothing to do.
-const IDLE: u32 = 1;
+pub(crate) const IDLE: u32 = 1;
 /// The lane has too few free tags.
 const BUSY: u32 = 2;
 /// The completion queue is full.
@@ -43,6 +43,12 @@ pub(crate) const NO_MEDIATOR: u32 = 16;
 pub(crate) const IN_USE: u32 = 17;
 /// There is no such guest, lane, tag, queue, slot, block, kind of event or scope.
 pub(crate) const NO_SUCH: u32 = 18;
+/// The memory that is lent is not as long as the set-up says.
+pub(crate) const OTHER_MEMORY: u32 = 20;
+/// The lane was closed.
+pub(crate) const CLOSED: u32 = 21;
+/// A completion names no command that the drive has.
+pub(crate) const STRAY: u32 = 22;
 
 /// What an event is answered, by its reply.
 pub(crate) fn of_reply(reply: &Reply) -> u32

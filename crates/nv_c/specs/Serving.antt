@@ -1,0 +1,121 @@
+-- What a call from C does to a mediator that is lent the host's memory, and what its answer says.
+use Rattle.std.specs.Prelude.{◌≡◌, ◌⊎◌, ◌<◌, ◌≤◌, ℕ, true, false, ◌&&◌, if◌then◌else◌, IsTrue, List, Option, Some, None, option_map, slice_get, slice_set}
+use Rattle.nv_c.specs.Calls.{closed, dword_told, idle, ignored, no_memory, no_such, ok, status_of, stray}
+use Rattle.nv_c.specs.Names.{Names}
+use Rattle.nv_c.specs.declared.event.Event as c
+use Rattle.nv_c.specs.declared.rings.Rings.{Rings}
+use Rattle.nv_core.specs.Seat.{bytes_told}
+use Rattle.nv_host.specs.Closing.{AreDone, IsLaneAlone, IsOver, IsRingAlone}
+use Rattle.nv_host.specs.Served.{IsDone, IsNext, IsUnreached, LeadsTo, Served, is_closed, is_offered, is_reap, is_served}
+use Rattle.nv_mediator.specs.Hosted.{Hosted, may_want}
+use Rattle.nv_model.specs.Controller.{Controller, pending}
+use Rattle.nv_model.specs.declared.reply.Reply.{Reply}
+use Rattle.nv_model.specs.declared.reply.Reply.TheVariants as reply
+use Rattle.nv_world_model.specs.Area.{completion_slot, ring_size, submission_slot}
+use Rattle.nv_world_model.specs.Due.{due}
+use Rattle.nv_world_model.specs.World.{World}
+use Rattle.nv_world_model.specs.declared.event.Event.{Event}
+use Rattle.nv_world_model.specs.declared.event.Event.TheVariants as event
+use Rattle.nv_world_model.specs.declared.logged.Logged.{Logged}
+
+-- ---- what a call does
+
+-- the event was made, whole, and is answered by its reply
+abbrev pub IsServed : Event → (before after : List ℕ) → (old : Served) → (status : ℕ) → (new : Served) → Type 0
+IsServed e before after old status new = (r : Reply) × (status ≡ status_of r) × IsDone e old before r new after
+
+-- nothing was done, and it is answered so
+abbrev pub IsNotDone : (why : ℕ) → (before after : List ℕ) → (old : Served) → (status : ℕ) → (new : Served) → Type 0
+IsNotDone why before after old status new = (status ≡ why) × (new ≡ old) × (after ≡ before)
+
+-- what an event that is no guest's act comes to. A Reap of a completion that names no command is answered so; then no log leads there. So is a Take for
+-- a lane that was closed, an event of the drive's, and one for which there was no memory
+abbrev pub IsStepped : Event → (before after : List ℕ) → (old : Served) → (status : ℕ) → (new : Served) → Type 0
+IsStepped e before after old status new =
+    ((r : Reply) × (status ≡ status_of r) × IsNext e old before r new after × (is_reap e ≡ false → IsDone e old before r new after))
+    ⊎ IsTrue (is_reap e) × IsUnreached old before × IsNotDone stray before after old status new
+    ⊎ (is_offered old e ≡ false) × IsTrue (is_served e) × IsNotDone closed before after old status new
+    ⊎ (is_served e ≡ false) × IsNotDone no_such before after old status new
+    ⊎ IsTrue (may_want e) × IsNotDone no_memory before after old status new
+
+-- of the event that a struct names
+abbrev pub IsNamedStep : c.Event → (before after : List ℕ) → (old : Served) → (status : ℕ) → (new : Served) → Type 0
+IsNamedStep named before after old status new = (e : Event) × Names named e × IsStepped e before after old status new
+
+-- the event was made, and the value after it is the dword that was read
+abbrev pub IsRead : Event → (value : ℕ) → (before after : List ℕ) → (old : Served) → (status : ℕ) → (new : Served) → Type 0
+IsRead e value before after old status new =
+    (r : Reply) × (status ≡ status_of r) × IsDone e old before r new after × (value ≡ dword_told r)
+
+-- the bytes of a load are in the room; or none were loaded, and the room is as it was. Nothing else changes
+abbrev pub IsLoaded : Event → (room filled : List ℕ) → (before after : List ℕ) → (old : Served) → (status : ℕ) → (new : Served) → Type 0
+IsLoaded e room filled before after old status new =
+    (r : Reply) × (status ≡ status_of r) × (new ≡ old)
+    × ((r ≡ reply.Done) × IsDone e old before (reply.Bytes filled) old after ⊎ (bytes_told r ≡ None) × (filled ≡ room) × IsDone e old before r old after)
+
+-- it was reported whether the event is due where a log leads to the mediator and the memory, and not for a lane that was closed; nothing has changed
+abbrev pub IsTold : Event → (told : ℕ) → (before after : List ℕ) → (old : Served) → (status : ℕ) → (new : Served) → Type 0
+IsTold e told before after old status new =
+    (status ≡ ok) × (new ≡ old) × (after ≡ before)
+    × ((log : List Logged) (z : World) → LeadsTo old before log z → told ≡ (if is_offered old e && due old.setup.geometry e z then 1 else 0))
+
+-- of the event that a struct names
+abbrev pub IsNamedTold : c.Event → (told : ℕ) → (before after : List ℕ) → (old : Served) → (status : ℕ) → (new : Served) → Type 0
+IsNamedTold named told before after old status new = (e : Event) × Names named e × IsTold e told before after old status new
+
+-- ---- the drive's queues
+
+-- where a lane's rings lie and how long they are, what their doorbells are to have, and whether the lane was closed
+pub record AreRings (h : Served) (lane : ℕ) (rings : Rings) : Type 0 where
+  pub there : lane < h.setup.lanes
+  pub submission : rings.submission ≡ submission_slot h.setup.geometry.mediator lane 0
+  pub completion : rings.completion ≡ completion_slot h.setup.geometry.mediator lane 0
+  pub entries : rings.entries ≡ ring_size
+  pub tail : Some rings.tail ≡ slice_get h.side.tails lane
+  pub head : Some rings.head ≡ option_map (λ l. l.head) (slice_get h.side.lanes lane)
+  pub closed : rings.closed ≡ (if is_closed h lane then 1 else 0)
+
+-- they were reported, or there is no such lane; nothing has changed
+abbrev pub IsRingsTold : (lane : ℕ) → (before after : Rings) → (old : Served) → (status : ℕ) → (new : Served) → Type 0
+IsRingsTold lane before after old status new =
+    (new ≡ old) × ((status ≡ ok) × AreRings old lane after ⊎ (old.setup.lanes ≤ lane) × (status ≡ no_such) × (after ≡ before))
+
+-- the vector that one of a guest's completion queues raises: it was reported, or the queue raises none, or there is no such queue or guest
+abbrev pub IsVector : Option (Option ℕ) → (before after status : ℕ) → Type 0
+IsVector None before after status = (status ≡ no_such) × (after ≡ before)
+IsVector (Some None) before after status = (status ≡ idle) × (after ≡ before)
+IsVector (Some (Some vector)) before after status = (status ≡ ok) × (after ≡ vector)
+
+abbrev pub IsRaised : (queue : ℕ) → Option Controller → (before after status : ℕ) → Type 0
+IsRaised queue None before after status = (status ≡ ignored) × (after ≡ before)
+IsRaised queue (Some c) before after status = IsVector (slice_get (pending c) queue) before after status
+
+-- and nothing has changed
+abbrev pub IsRaisedTold : (guest queue before after : ℕ) → (old : Served) → (status : ℕ) → (new : Served) → Type 0
+IsRaisedTold guest queue before after old status new = (new ≡ old) × IsRaised queue (slice_get old.side.controllers guest) before after status
+
+-- a lane was closed
+pub record IsShut (lane : ℕ) (before after : List ℕ) (old new : Served) : Type 0 where
+  pub there : lane < old.setup.lanes
+  pub over : IsOver old.setup.geometry lane before old.side new.side
+  pub ended : AreDone lane new.side
+  pub alone : IsLaneAlone lane old.side new.side
+  pub ring : IsRingAlone old.setup.geometry lane before after
+  pub closed : new.closed ≡ slice_set old.closed lane true
+  pub setup : new.setup ≡ old.setup
+
+-- or there is none, and nothing has changed
+abbrev pub IsClosed : (lane : ℕ) → (before after : List ℕ) → (old : Served) → (status : ℕ) → (new : Served) → Type 0
+IsClosed lane before after old status new =
+    (status ≡ ok) × IsShut lane before after old new ⊎ (old.setup.lanes ≤ lane) × IsNotDone no_such before after old status new
+
+-- a mediator whose drive is the library's own has no such lane for a host
+abbrev pub HasNoRings : (before after : Rings) → (old : Hosted) → (status : ℕ) → (new : Hosted) → Type 0
+HasNoRings before after old status new = (status ≡ no_such) × (new ≡ old) × (after ≡ before)
+
+abbrev pub HasNoLane : (old : Hosted) → (status : ℕ) → (new : Hosted) → Type 0
+HasNoLane old status new = (status ≡ no_such) × (new ≡ old)
+
+-- and it says nothing of interrupts
+abbrev pub HasNoVector : (before after : ℕ) → (old : Hosted) → (status : ℕ) → (new : Hosted) → Type 0
+HasNoVector before after old status new = (status ≡ no_such) × (new ≡ old) × (after ≡ before)

@@ -1,0 +1,167 @@
+//! What is done to a mediator that is lent the host's memory.
+
+ghost use Rattle.std.specs.Prelude.{◌≡◌, ◌==◌, ◌⊎◌, MatchResult, length};
+ghost use Rattle.nv_c.specs.Calls.{IsError, Lent, no_memory, status_of};
+ghost use Rattle.nv_c.specs.Serving.{IsClosed, IsLoaded, IsRead, IsServed, IsStepped, IsTold};
+
+use crate::acting::dword_of;
+use crate::status;
+use nv_host::HostMediator;
+use nv_mem::NoMemory;
+use nv_model::{Act, Reply};
+use nv_world_model::Event;
+use std::alloc::Global;
+
+// Whether the memory that was lent is as long as the set-up says.
+fn fits(mediator: &HostMediator, memory: &[u8]) -> bool
+    ensures { result ≡ (length memory.now == mediator.now.setup.host_bytes) }
+{
+    memory.len() as u64 == mediator.host_bytes()
+}
+
+/// A guest stores these bytes from its address `address` on: what it is answered.
+pub(crate) fn store(
+    mediator: &mut HostMediator,
+    guest: u8,
+    address: u64,
+    bytes: &[u8],
+    memory: &mut [u8],
+) -> u32
+    ensures { Lent (IsServed (Event.Guest guest (Act.Store address bytes.now))) memory.old memory.new mediator.old result mediator.new }
+{
+    if !fits(mediator, memory) {
+        return status::OTHER_MEMORY;
+    }
+    status::of_reply(&mediator.store(guest, address, bytes, memory))
+}
+
+/// A guest loads as many bytes as there is room for from its address `address` on: what it is answered. After an error the room is as it was.
+pub(crate) fn load(
+    mediator: &HostMediator,
+    guest: u8,
+    address: u64,
+    room: &mut [u8],
+    memory: &[u8],
+) -> u32
+    ensures value { Lent (IsLoaded (Event.Guest guest (Act.Load address (length room.old))) room.old room.new) memory.now memory.now
+        mediator.now result mediator.now }
+    ensures unchanged { IsError result → room.new ≡ room.old }
+{
+    if !fits(mediator, memory) {
+        return status::OTHER_MEMORY;
+    }
+    status::of_reply(&mediator.load(guest, address, room, memory))
+}
+
+/// A guest reads the dword of a register: what it is answered. After an error the value is as it was, or 0.
+pub(crate) fn read(
+    alloc: Global,
+    mediator: &mut HostMediator,
+    guest: u8,
+    offset: u32,
+    value: &mut u32,
+    memory: &mut [u8],
+) -> u32
+    ensures value { Lent (IsRead (Event.Guest guest (Act.RegRead offset)) value.new) memory.old memory.new
+        mediator.old result mediator.new }
+    ensures none { IsError result → (value.new ≡ value.old) ⊎ (value.new ≡ 0) }
+{
+    if !fits(mediator, memory) {
+        return status::OTHER_MEMORY;
+    }
+    match mediator.act(alloc, guest, &Act::RegRead { offset }, memory) {
+        Ok(reply) => {
+            *value = dword_of(&reply);
+            status::of_reply(&reply)
+        }
+        // It reads without memory.
+        Err(_) => unreachable!(),
+    }
+}
+
+/// Whether an event is due, and nothing for a lane that was closed. After an error the answer is as it was.
+pub(crate) fn due(mediator: &HostMediator, event: &Event, told: &mut u32, memory: &[u8]) -> u32
+    ensures value { Lent (IsTold event.now told.new) memory.now memory.now mediator.now result mediator.now }
+    ensures unchanged { IsError result → told.new ≡ told.old }
+{
+    if !fits(mediator, memory) {
+        return status::OTHER_MEMORY;
+    }
+    *told = u32::from(mediator.due(event, memory));
+    status::OK
+}
+
+/// Carries out an event: what it is answered.
+pub(crate) fn step(
+    alloc: Global,
+    mediator: &mut HostMediator,
+    event: &Event,
+    memory: &mut [u8],
+) -> u32
+    ensures { Lent (IsStepped event.now) memory.old memory.new mediator.old result mediator.new }
+{
+    if !fits(mediator, memory) {
+        return status::OTHER_MEMORY;
+    }
+    stepped(alloc, mediator, event, memory)
+}
+
+// An event, where the memory that was lent is as long as it has to be.
+fn stepped(alloc: Global, mediator: &mut HostMediator, event: &Event, memory: &mut [u8]) -> u32
+    requires { length memory.old ≡ mediator.old.setup.host_bytes }
+    ensures value { IsStepped event.now memory.old memory.new mediator.old result mediator.new }
+    ensures len { length memory.new ≡ length memory.old }
+{
+    match event {
+        Event::Guest(guest, act) => of_room(mediator.act(alloc, *guest, act, memory)),
+        Event::Admin(guest) => status::of_reply(&mediator.admin(*guest, memory)),
+        Event::Take(guest, queue, lane) => {
+            match mediator.take(alloc, *guest, *queue, *lane, memory) {
+                Ok(reply) => status::of_reply(&reply),
+                Err(_closed) => status::CLOSED,
+            }
+        }
+        Event::List(lane, tag, addr, len) => {
+            match mediator.list(alloc, *lane, *tag, *addr, *len, memory) {
+                Ok((reply, _again)) => status::of_reply(&reply),
+                Err(NoMemory) => status::NO_MEMORY,
+            }
+        }
+        Event::Submit(lane, tag) => of_room(mediator.submit(alloc, *lane, *tag, memory)),
+        Event::GiveUp(lane, tag) => status::of_reply(&mediator.give_up(*lane, *tag)),
+        Event::Reap(lane) => match mediator.reap(*lane, memory) {
+            Ok(reply) => status::of_reply(&reply),
+            Err(_stray) => status::STRAY,
+        },
+        Event::Post(lane, tag) => status::of_reply(&mediator.post(*lane, *tag, memory)),
+        Event::DevTake(_lane) => status::NO_SUCH,
+        Event::DevMove(_lane, _slot, _number) => status::NO_SUCH,
+        Event::DevPost(_lane, _slot) => status::NO_SUCH,
+        Event::DevFail(_lane, _slot, _status) => status::NO_SUCH,
+        Event::Keep(_block) => status::NO_SUCH,
+    }
+}
+
+// What an event is answered for which there may be no memory.
+fn of_room(replied: Result<Reply, NoMemory>) -> u32
+    ensures { MatchResult replied (λ reply. result ≡ status_of reply) (λ _. result ≡ no_memory) }
+{
+    match replied {
+        Ok(reply) => status::of_reply(&reply),
+        Err(NoMemory) => status::NO_MEMORY,
+    }
+}
+
+/// Closes a lane: what it is answered.
+pub(crate) fn close(mediator: &mut HostMediator, lane: u8, memory: &mut [u8]) -> u32
+    ensures { Lent (IsClosed lane) memory.old memory.new mediator.old result mediator.new }
+{
+    if !fits(mediator, memory) {
+        return status::OTHER_MEMORY;
+    }
+    if lane >= mediator.lanes() {
+        return status::NO_SUCH;
+    }
+    mediator.close(lane, memory);
+    status::OK
+}

@@ -1,0 +1,50 @@
+/* A guest: its QEMU, the accesses of its NVMe function, and its interrupt. What a QEMU process does wrong ends its own connection alone. */
+#ifndef HOST_GUEST_H
+#define HOST_GUEST_H
+
+#include "config.h"
+#include "interrupt.h"
+#include "mediation.h"
+#include "memory.h"
+#include "pci.h"
+#include "peer.h"
+#include "proxy.h"
+
+typedef struct guest {
+    uint32_t number;
+    const config_guest *is;
+    memory_file memory;
+    peer_listener listener; /* where its QEMU connects, or */
+    peer_process process;   /* the QEMU that was started */
+    bool connected;
+    bool over; /* its QEMU was started, and has gone: nothing more comes */
+    proxy link;
+    pci_function function;
+    interrupt irq;
+} guest;
+
+/* A guest without a QEMU. Its memory is there already. */
+void guest_begin(guest *g, uint32_t number, const config_guest *is);
+
+/* Starts its QEMU, or listens for one. */
+bool guest_start(guest *g, reason *r);
+
+/* Takes a QEMU that connects, where there is none. */
+void guest_accept(guest *g);
+
+/* Carries out what its QEMU asks for. False, with the reason, where the connection has to be closed: guest_lose does it. */
+bool guest_serve(guest *g, mediation *m, reason *r);
+
+/* Closes the connection: the controller is reset, and a QEMU that listens may connect anew. */
+void guest_lose(guest *g, mediation *m);
+
+/* Sets the interrupt as the guest's completion queues say. False, with the reason, as of guest_serve. */
+bool guest_interrupt(guest *g, mediation *m, reason *r);
+
+/* The guest has acknowledged its interrupt. */
+bool guest_acknowledged(guest *g, reason *r);
+
+/* Ends its QEMU, where it was started, and gives back all that the guest has but its memory's mapping. */
+void guest_end(guest *g);
+
+#endif

@@ -1,0 +1,194 @@
+/* nvmed-host: virtual machines with unmodified drivers share an NVMe drive through the proved mediator. */
+#include <errno.h>
+#include <poll.h>
+#include <signal.h>
+#include <stdio.h>
+#include <stdlib.h>
+#include <string.h>
+#include <sys/time.h>
+
+#include "clock.h"
+#include "guest.h"
+#include "layout.h"
+#include "mediation.h"
+
+enum { ENDED = 0, FAILED = 1, USAGE = 2, DRIVE_FAILED = 3, POLLS = 3 * CONFIG_GUESTS, TICK = 1000 /* milliseconds */ };
+
+typedef struct host {
+    config config;
+    layout layout;
+    memory_row row;
+    memory_file area;
+    window reach;
+    mediation mediation;
+    guest guest[CONFIG_GUESTS];
+    unsigned guests; /* that have begun */
+} host;
+
+static volatile sig_atomic_t stopping;
+
+static void stop(int signal) {
+    (void)signal;
+    stopping = 1;
+}
+
+/* Interrupts a write that a QEMU makes block (interrupt.h). */
+static void tick(int signal) { (void)signal; }
+
+static void handle_signals(void) {
+    struct sigaction end = {.sa_handler = stop}, timer = {.sa_handler = tick}, none = {.sa_handler = SIG_IGN};
+    struct itimerval second = {{1, 0}, {1, 0}};
+    sigaction(SIGTERM, &end, NULL);
+    sigaction(SIGINT, &end, NULL);
+    sigaction(SIGALRM, &timer, NULL);
+    sigaction(SIGPIPE, &none, NULL);
+    setitimer(ITIMER_REAL, &second, NULL);
+}
+
+static void say(const guest *g, const char *text) { fprintf(stderr, "nvmed-host: guest %u: %s\n", (unsigned)g->number, text); }
+
+/* ---- the beginning */
+
+static bool map_memory(host *h, reason *r) {
+    const config *c = &h->config;
+    const char *own = c->drive == CONFIG_QEMU ? c->memory : NULL;
+    if (!layout_make(&h->layout, c, r) || !memory_reserve(&h->row, h->layout.bytes, r)) return false;
+    if (!memory_add(&h->area, &h->row, own, h->layout.area, h->layout.area_bytes, r)) return false;
+    for (; h->guests < c->guests; h->guests++) {
+        guest *g = &h->guest[h->guests];
+        guest_begin(g, h->guests, &c->guest[h->guests]);
+        if (!memory_add(&g->memory, &h->row, g->is->file, h->layout.guest[h->guests], g->is->memory, r)) return false;
+    }
+    return layout_window(&h->layout, c, &h->row, &h->reach, r);
+}
+
+/* The library has no shares of tags yet. */
+static bool has_no_shares(const config *c, reason *r) {
+    for (unsigned g = 0; g < c->guests; g++)
+        if (c->guest[g].share) return refuse(r, "line %u: shares are not carried out in this version", c->guest[g].share_line);
+    return true;
+}
+
+static bool begin(host *h, reason *r) {
+    char text[256];
+    if (!has_no_shares(&h->config, r)) return false;
+    if (!map_memory(h, r) || !mediation_open(&h->mediation, &h->config, &h->layout, h->row.bytes, &h->reach, r)) return false;
+    drive_describe(h->mediation.disk, text, sizeof text);
+    fprintf(stderr, "nvmed-host: the drive: %s\n", text);
+    for (unsigned i = 0; i < h->guests; i++)
+        if (!guest_start(&h->guest[i], r)) return false;
+    return true;
+}
+
+static void end(host *h) {
+    reason r;
+    for (unsigned i = 0; i < h->guests; i++) guest_end(&h->guest[i]);
+    if (!mediation_close(&h->mediation, &r)) fprintf(stderr, "nvmed-host: the drive: %s\n", r.text);
+    memory_close(&h->area);
+    memory_release(&h->row);
+}
+
+/* ---- what goes on */
+
+static void lose(host *h, guest *g, const reason *r) {
+    say(g, r->text);
+    guest_lose(g, &h->mediation);
+}
+
+/* What is waited for: of each guest its connection, or one that comes, and the acknowledgement of its interrupt. */
+static void fill(const host *h, struct pollfd *polls) {
+    for (unsigned i = 0; i < h->guests; i++) {
+        const guest *g = &h->guest[i];
+        struct pollfd *p = polls + 3 * i;
+        p[0] = (struct pollfd){g->connected ? g->link.fd : -1, (short)(POLLIN | (g->connected && proxy_pending(&g->link) ? POLLOUT : 0)), 0};
+        p[1] = (struct pollfd){g->connected ? -1 : g->listener.fd, POLLIN, 0};
+        p[2] = (struct pollfd){g->connected ? g->irq.resample : -1, POLLIN, 0};
+    }
+}
+
+static void serve(host *h, guest *g, const struct pollfd *p) {
+    reason r;
+    if (p[1].revents) guest_accept(g);
+    if (p[2].revents && g->connected && !guest_acknowledged(g, &r)) lose(h, g, &r);
+    if (g->connected && (p[0].revents || g->link.partial) && !guest_serve(g, &h->mediation, &r)) lose(h, g, &r);
+}
+
+/* The guests see what has become of their commands. */
+static void tell(host *h) {
+    reason r;
+    for (unsigned i = 0; i < h->guests; i++) {
+        guest *g = &h->guest[i];
+        if (!guest_interrupt(g, &h->mediation, &r)) lose(h, g, &r);
+        if (g->connected && pci_is_shutting(&g->function) && mediation_flying(&h->mediation) == 0) pci_note_idle(&g->function);
+    }
+}
+
+static bool is_any_left(host *h) {
+    reason r;
+    bool any = false;
+    for (unsigned i = 0; i < h->guests; i++) {
+        guest *g = &h->guest[i];
+        if (g->process.pid >= 0 && peer_ended(&g->process, &r)) say(g, r.text);
+        any |= !g->over;
+    }
+    return any;
+}
+
+/* Until a signal comes, no guest is left, or the drive has failed and the guests were answered. The status of the program. */
+static int run(host *h) {
+    struct pollfd polls[POLLS];
+    reason r;
+    uint64_t last = clock_milliseconds(), failed = 0;
+    while (!stopping && is_any_left(h)) {
+        fill(h, polls);
+        /* a drive that has commands is looked at again at once: its completions lie in memory */
+        int ready = poll(polls, 3 * h->guests, mediation_flying(&h->mediation) ? 0 : TICK);
+        if (ready < 0 && errno != EINTR) break;
+        for (unsigned i = 0; ready > 0 && i < h->guests; i++) serve(h, &h->guest[i], polls + 3 * i);
+        bool good = mediation_work(&h->mediation, &r);
+        if (good && clock_milliseconds() - last >= TICK) {
+            last = clock_milliseconds();
+            good = mediation_check(&h->mediation, &r);
+        }
+        if (!good) {
+            fprintf(stderr, "nvmed-host: the drive: %s\n", r.text);
+            failed = clock_milliseconds();
+        }
+        tell(h);
+        if (failed && clock_milliseconds() - failed >= TICK) return DRIVE_FAILED;
+    }
+    return ENDED;
+}
+
+static const char help[] =
+    "nvmed-host CONFIGURATION\n"
+    "\n"
+    "Virtual machines share an NVMe drive through a proved mediator. The configuration has plain lines:\n"
+    "\n"
+    "  drive ram SIZE [FILE]      a simulated drive, in memory or in a file\n"
+    "  drive qemu SOCKET FILE     the controller of a QEMU, by its qtest socket\n"
+    "  drive vfio 0000:01:00.0    a controller that is bound to vfio-pci\n"
+    "  lanes N                    pairs of queues of the drive, 1 to 8\n"
+    "  guest G memory SIZE [FILE] a guest, numbered from 0 in order, and its memory\n"
+    "  extent G BASE BLOCKS       blocks of 512 bytes that are the guest's\n"
+    "  descriptors G N            of a scatter gather list of the guest\n"
+    "  version G 1.2              what its version register says\n"
+    "  listen G PATH, or start G WORD..\n"
+    "\n"
+    "Status: 0 where all guests ended or a signal ended it, 1 where it could not begin, 2 for wrong words, 3 where the drive failed.\n";
+
+int main(int argc, char **argv) {
+    static host h = {.area = {.fd = -1}};
+    reason r;
+    if (argc == 2 && strcmp(argv[1], "--help") == 0) return fputs(help, stdout) < 0;
+    if (argc != 2 || argv[1][0] == '-') {
+        fputs("nvmed-host: one word is wanted, the file of the configuration; or --help\n", stderr);
+        return USAGE;
+    }
+    handle_signals();
+    int status = FAILED;
+    if (config_read(&h.config, argv[1], &r) && begin(&h, &r)) status = run(&h);
+    else fprintf(stderr, "nvmed-host: %s\n", r.text);
+    end(&h);
+    return status;
+}

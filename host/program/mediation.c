@@ -1,0 +1,132 @@
+#include "mediation.h"
+
+#include <inttypes.h>
+
+#include "clock.h"
+
+enum { CC = 0x14, RING_SLOTS = 65, EVENTS = 4096 /* of one call of the library, so that the drive gets its doorbells soon */ };
+
+/* One set-up of the library, with a namespace of each guest's extents. */
+static bool make_mediator(nvmed *m, const config *c, const layout *l, uint8_t *memory, reason *r) {
+    nvmed_sizes sizes = {l->bytes, l->mediator, config_blocks(c), c->lanes};
+    nvmed_region regions[CONFIG_GUESTS * LAYOUT_REGIONS];
+    nvmed_extent extents[CONFIG_GUESTS * CONFIG_EXTENTS];
+    uint32_t limits[CONFIG_GUESTS];
+    uint64_t region_count = 0, extent_count = 0;
+    for (unsigned g = 0; g < c->guests; g++) {
+        const config_guest *guest = &c->guest[g];
+        unsigned count;
+        limits[g] = guest->descriptors;
+        layout_regions(l, c, g, regions + region_count, &count);
+        region_count += count;
+        for (unsigned e = 0; e < guest->extents; e++) extents[extent_count++] = (nvmed_extent){g, guest->extent[e].base, guest->extent[e].blocks};
+    }
+    *m = NVMED_INIT;
+    nvmed_status status = nvmed_serve(m, memory, &sizes, limits, c->guests, regions, region_count, extents, extent_count);
+    return status == NVMED_OK || refuse(r, "the mediator refuses the set-up: status %d", (int)status);
+}
+
+static drive *open_drive(const config *c, const layout *l, const window *reach, reason *r) {
+    nvme_needs needs = {l->admin, config_blocks(c), c->lanes};
+    switch (c->drive) {
+    case CONFIG_QEMU: return drive_open_qtest(reach, &needs, c->socket, r);
+    case CONFIG_VFIO: return drive_open_vfio(reach, &needs, c->address, r);
+    default: return drive_open_ram(reach, c->ram / 512, c->image, r);
+    }
+}
+
+/* The rings of the lanes become queues of the drive. */
+static bool create_lanes(mediation *m, reason *r) {
+    nvme_lane lanes[NVME_LANES];
+    for (unsigned i = 0; i < m->lanes; i++) {
+        nvmed_lane_rings rings;
+        if (nvmed_rings(&m->mediator, i, &rings) != NVMED_OK) return refuse(r, "the mediator has no lane %u", i);
+        lanes[i] = (nvme_lane){rings.submission, rings.completion, rings.entries, rings.entries};
+    }
+    return drive_create_lanes(m->disk, lanes, m->lanes, r);
+}
+
+bool mediation_open(mediation *m, const config *c, const layout *l, uint8_t *memory, const window *reach, reason *r) {
+    reason more;
+    *m = (mediation){.lanes = c->lanes, .disk = open_drive(c, l, reach, r)};
+    if (!m->disk) return false;
+    if (make_mediator(&m->mediator, c, l, memory, r)) {
+        if (create_lanes(m, r)) return true;
+        nvmed_free(&m->mediator);
+    }
+    drive_close(m->disk, &more);
+    return false;
+}
+
+static unsigned steps(uint32_t from, uint32_t to) { return (to + RING_SLOTS - from) % RING_SLOTS; }
+
+/* Writes the doorbells of a lane that are to have another value. */
+static bool ring(mediation *m, unsigned lane, reason *r) {
+    mediation_lane *told = &m->lane[lane];
+    nvmed_lane_rings now;
+    if (nvmed_rings(&m->mediator, lane, &now) != NVMED_OK) return refuse(r, "the mediator has no lane %u", lane);
+    unsigned sent = steps(told->tail, now.tail), answered = steps(told->head, now.head);
+    if (answered || !told->flying) told->since = clock_milliseconds();
+    told->flying += sent;
+    told->flying -= answered < told->flying ? answered : told->flying;
+    told->tail = now.tail;
+    told->head = now.head;
+    return (!sent || drive_ring_submission(m->disk, lane, now.tail, r)) && (!answered || drive_ring_completion(m->disk, lane, now.head, r));
+}
+
+/* The drive can't be relied on any more: it is stopped, and what it had ends. */
+static bool give_up(mediation *m) {
+    reason more;
+    uint64_t done;
+    drive_close(m->disk, &more);
+    m->disk = NULL;
+    for (unsigned i = 0; i < m->lanes; i++) {
+        nvmed_close(&m->mediator, i);
+        m->lane[i].flying = 0;
+    }
+    while (nvmed_work(&m->mediator, NVMED_OF_ALL, 0, EVENTS, &done) == NVMED_OK && done == EVENTS) {}
+    return false;
+}
+
+bool mediation_work(mediation *m, reason *r) {
+    uint64_t done;
+    unsigned moved;
+    do {
+        nvmed_status status = nvmed_work(&m->mediator, NVMED_OF_ALL, 0, EVENTS, &done);
+        if (!m->disk) return true;
+        if (status == NVMED_STRAY) {
+            refuse(r, "the drive completed a command that it does not have");
+            return give_up(m);
+        }
+        for (unsigned i = 0; i < m->lanes; i++)
+            if (!ring(m, i, r)) return give_up(m);
+        moved = drive_work(m->disk, EVENTS);
+    } while (done || moved);
+    return true;
+}
+
+bool mediation_check(mediation *m, reason *r) {
+    if (!m->disk) return true;
+    if (!drive_check(m->disk, r)) return give_up(m);
+    for (unsigned i = 0; i < m->lanes; i++)
+        if (m->lane[i].flying && clock_milliseconds() - m->lane[i].since >= MEDIATION_WAIT) {
+            refuse(r, "the drive has not answered for %d seconds on lane %u", MEDIATION_WAIT / 1000, i);
+            return give_up(m);
+        }
+    return true;
+}
+
+unsigned mediation_flying(const mediation *m) {
+    unsigned sum = 0;
+    for (unsigned i = 0; i < m->lanes; i++) sum += m->lane[i].flying;
+    return sum;
+}
+
+void mediation_reset(mediation *m, uint32_t guest) { nvmed_reg_write(&m->mediator, guest, CC, 0); }
+
+bool mediation_close(mediation *m, reason *r) {
+    bool good = !m->disk || drive_close(m->disk, r);
+    m->disk = NULL;
+    nvmed_free(&m->mediator);
+    return good;
+}

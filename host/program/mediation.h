@@ -1,0 +1,46 @@
+/* The mediator and the drive behind it: what is due is carried out, and the drive's doorbells are written. */
+#ifndef HOST_MEDIATION_H
+#define HOST_MEDIATION_H
+
+#include "config.h"
+#include "drive.h"
+#include "layout.h"
+#include "nvmed.h"
+#include "reason.h"
+
+enum { MEDIATION_WAIT = 30000 /* milliseconds that a command of the drive may take */ };
+
+/* A lane, as the drive was told of it last. */
+typedef struct mediation_lane {
+    uint32_t tail, head;
+    unsigned flying; /* commands that the drive has */
+    uint64_t since;  /* when it last answered, or got the first of these: milliseconds */
+} mediation_lane;
+
+typedef struct mediation {
+    nvmed mediator;
+    drive *disk; /* NULL: it has failed, and was closed */
+    unsigned lanes;
+    mediation_lane lane[NVME_LANES];
+} mediation;
+
+/* Opens the drive, makes the mediator, and creates the lanes' queues. Where it fails nothing is left open. */
+bool mediation_open(mediation *m, const config *c, const layout *l, uint8_t *memory, const window *reach, reason *r);
+
+/* Carries out what is due, until nothing is. False, with the reason, where the drive has failed: it is closed then, the lanes are closed, and what was
+ * on its way has ended with an error that guests may try again. */
+bool mediation_work(mediation *m, reason *r);
+
+/* Looks at the drive itself: whether it still works, and has answered in time. As mediation_work. */
+bool mediation_check(mediation *m, reason *r);
+
+/* How many commands the drive has. */
+unsigned mediation_flying(const mediation *m);
+
+/* Ends a guest's controller as a reset does: its queues are gone, and its commands run out. */
+void mediation_reset(mediation *m, uint32_t guest);
+
+/* Closes the drive and gives back the mediator. False, with the reason, where the drive did not stop well. */
+bool mediation_close(mediation *m, reason *r);
+
+#endif
