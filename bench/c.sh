@@ -4,9 +4,9 @@
 # What is installed is libnvmed.a, nvmed.h and nvmed.pc. The archive is one object: the library's archive, and what that needs of the toolchain's own
 # archive for memory. It links with the C library alone, and its only global names are the functions that nvmed.h declares.
 #
-# The programs are built against a copy that is installed in a folder of this run, with the words of pkg-config: examples/host.c and bench/wrong/c.c in
-# C11 and as C++17, examples/host.cc in C++17, examples/host.rs in Rust, with warnings as errors. A check is one of these programs in one of the
-# languages, run once: what it prints must be its .expected file, and under valgrind there must be no error and no leak. Further checks are both C
+# The programs are built against a copy that is installed in a folder of this run, with the words of pkg-config: host.c and hosting.c of examples/, c.c
+# and serve.c of bench/wrong/ in C11 and as C++17, examples/host.cc in C++17, examples/host.rs in Rust, with warnings as errors. A check is one of these programs in one of the
+# languages, run once: what it prints must be its .expected file, and under valgrind there must be no error and no leak. Further checks are the C
 # programs with sanitizers of addresses and of undefined behaviour, examples/host.c with the C library alone beside functions that have names of the
 # toolchain's archive, and two of the installation. Each check that fails is named, and what could not be run on this machine is named as left out:
 # without clang, cc and c++ are taken, and without rustc, valgrind or sanitizers their checks are left out. Without pkg-config the copy is named by its
@@ -271,7 +271,9 @@ for language in c cxx rust; do
     case $language in
         c | cxx)
             check_program examples/host.c examples/host.expected "$language"
+            check_program examples/hosting.c examples/hosting.expected "$language"
             check_program bench/wrong/c.c bench/wrong/c.expected "$language"
+            check_program bench/wrong/serve.c bench/wrong/serve.expected "$language"
             ;;&
         c) check "examples/host.c with the C library alone" is_alone ;;
         cxx) check_program examples/host.cc examples/host.cc.expected cxx ;;
@@ -287,7 +289,9 @@ for it in clang gcc cc; do
 done
 if [[ -n $sanitizing ]]; then
     check "examples/host.c with sanitizers" sanitized examples/host.c examples/host.expected "$sanitizing"
+    check "examples/hosting.c with sanitizers" sanitized examples/hosting.c examples/hosting.expected "$sanitizing"
     check "bench/wrong/c.c with sanitizers" sanitized bench/wrong/c.c bench/wrong/c.expected "$sanitizing"
+    check "bench/wrong/serve.c with sanitizers" sanitized bench/wrong/serve.c bench/wrong/serve.expected "$sanitizing"
 else
     say "no compiler of C has sanitizers: left out are the checks with them"
 fi

@@ -16,12 +16,15 @@ extern "C" {
     fn nvmed_raw_new(m: &mut Handle, sizes: &Sizes, limits: *const u32, guests: usize, regions: *const Region, region_count: usize,
                      extents: *const Extent, extent_count: usize) -> u32;
     fn nvmed_raw_free(m: &mut Handle) -> u32;
-    fn nvmed_raw_store(m: &mut Handle, guest: u32, address: u64, bytes: *const u8, length: usize) -> u32;
-    fn nvmed_raw_load(m: &mut Handle, guest: u32, address: u64, bytes: *mut u8, length: usize) -> u32;
-    fn nvmed_raw_reg_write(m: &mut Handle, guest: u32, offset: u32, value: u32) -> u32;
-    fn nvmed_raw_doorbell(m: &mut Handle, guest: u32, offset: u32, value: u32) -> u32;
-    fn nvmed_raw_work(m: &mut Handle, scope: u32, number: u32, most: u64, done: &mut u64) -> u32;
+    fn nvmed_raw_store(m: &mut Handle, guest: u32, address: u64, bytes: *const u8, length: usize, lent: *mut u8, size: usize) -> u32;
+    fn nvmed_raw_load(m: &mut Handle, guest: u32, address: u64, bytes: *mut u8, length: usize, lent: *const u8, size: usize) -> u32;
+    fn nvmed_raw_reg_write(m: &mut Handle, guest: u32, offset: u32, value: u32, lent: *mut u8, size: usize) -> u32;
+    fn nvmed_raw_doorbell(m: &mut Handle, guest: u32, offset: u32, value: u32, lent: *mut u8, size: usize) -> u32;
+    fn nvmed_raw_work(m: &mut Handle, scope: u32, number: u32, most: u64, done: &mut u64, lent: *mut u8, size: usize) -> u32;
 }
+
+/// No memory is lent: this mediator has its own.
+fn none() -> *mut u8 { std::ptr::NonNull::dangling().as_ptr() }
 
 /// A mediator, which is given back when it is dropped. A move of it leaves no copy of the handle.
 struct Mediator(Handle);
@@ -34,19 +37,19 @@ impl Mediator {
         m
     }
     fn store(&mut self, guest: u32, at: u64, bytes: &[u8]) {
-        assert_eq!(unsafe { nvmed_raw_store(&mut self.0, guest, at, bytes.as_ptr(), bytes.len()) }, 0);
+        assert_eq!(unsafe { nvmed_raw_store(&mut self.0, guest, at, bytes.as_ptr(), bytes.len(), none(), 0) }, 0);
     }
     fn load<const N: usize>(&mut self, guest: u32, at: u64) -> [u8; N] {
         let mut bytes = [0; N];
-        assert_eq!(unsafe { nvmed_raw_load(&mut self.0, guest, at, bytes.as_mut_ptr(), N) }, 0);
+        assert_eq!(unsafe { nvmed_raw_load(&mut self.0, guest, at, bytes.as_mut_ptr(), N, none(), 0) }, 0);
         bytes
     }
     /// Sends the entry of a slot of queue 0 or 1 by that queue's doorbell, does what is due (scope 3), and returns the completion's status.
     fn send(&mut self, guest: u32, queue: u32, slot: u32, entry: [u32; 12]) -> u32 {
         let [sq, cq] = [[0x10000, 0x11000], [0x13000, 0x12000]][queue as usize];
         self.store(guest, sq + 64 * u64::from(slot), &entry.map(u32::to_le_bytes).concat());
-        assert_eq!(unsafe { nvmed_raw_doorbell(&mut self.0, guest, 0x1000 + 8 * queue, slot + 1) }, 0);
-        assert_eq!(unsafe { nvmed_raw_work(&mut self.0, 3, 0, 100_000, &mut 0) }, 0);
+        assert_eq!(unsafe { nvmed_raw_doorbell(&mut self.0, guest, 0x1000 + 8 * queue, slot + 1, none(), 0) }, 0);
+        assert_eq!(unsafe { nvmed_raw_work(&mut self.0, 3, 0, 100_000, &mut 0, none(), 0) }, 0);
         let last = u32::from_le_bytes(self.load(guest, cq + 16 * u64::from(slot) + 12));
         assert_eq!(last >> 16 & 1, 1, "the command was not completed");
         last >> 17 & 0x7ff
@@ -65,7 +68,7 @@ fn main() {
     let mut m = Mediator::new(&sizes, &[1024; 2], &regions, &extents);
     for guest in [0, 1] {
         for (offset, value) in [(0x24, 0x001f001f), (0x28, 0x10000), (0x30, 0x11000), (0x14, 0x00460001)] {
-            assert_eq!(unsafe { nvmed_raw_reg_write(&mut m.0, guest, offset, value) }, 0);
+            assert_eq!(unsafe { nvmed_raw_reg_write(&mut m.0, guest, offset, value, none(), 0) }, 0);
         }
         let cq = m.send(guest, 0, 0, [0x05, 0, 0, 0, 0, 0, 0x12000, 0, 0, 0, 15 << 16 | 1, 1]);
         let sq = m.send(guest, 0, 1, [0x01, 0, 0, 0, 0, 0, 0x13000, 0, 0, 0, 15 << 16 | 1, 1 << 16 | 1]);

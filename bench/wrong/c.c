@@ -1,53 +1,7 @@
 /* Every call of the library for C with wrong arguments: null pointers, lengths of 0, numbers far out of range, handles without a mediator, set-ups
  * that are refused. Each has to answer one of its statuses, and the mediator has to be as it was. Prints the version of the library, which has to be
  * the header's, and how many calls there were of each other function: a hundred or more, those of nvmed_free on handles that hold nothing. */
-#include <stdio.h>
-#include <string.h>
-
-#include "nvmed.h"
-
-static int wrong;
-
-/* How many calls there were of each function, in the order of their first calls. */
-enum { FUNCTIONS = 16 };
-static struct { const char *name; int calls; } called[FUNCTIONS];
-
-/* Counts a call of the function whose name the text begins with. */
-static void count(const char *text) {
-    size_t wide = strcspn(text, "(");
-    int i = 0;
-    while (i < FUNCTIONS - 1 && called[i].name && (strncmp(called[i].name, text, wide) != 0 || called[i].name[wide] != '(')) i++;
-    called[i].name = text;
-    called[i].calls++;
-}
-
-/* A call that has to be answered so. */
-static void answered(const char *what, const char *text, nvmed_status want, nvmed_status got) {
-    count(text);
-    if (want != got) {
-        wrong++;
-        printf("%s: answered %d, not %d\n", what, (int)got, (int)want);
-    }
-}
-
-/* A call that may be answered in any way but by a number that is no status. */
-static void a_status(const char *what, const char *text, nvmed_status got) {
-    count(text);
-    if ((int)got < 0 || (int)got > NVMED_NULL || (int)got == 7) {
-        wrong++;
-        printf("%s: answered %d\n", what, (int)got);
-    }
-}
-
-#define want(what, status, call) answered(what, #call, status, call)
-#define any(what, call) a_status(what, #call, call)
-
-static const uint32_t numbers[] = {0, 1, 2, 7, 8, 15, 16, 63, 64, 255, 256, 65535, 65536, 0x7fffffff, 0x80000000, 0xffffffff};
-static const uint64_t wide[] = {0, 1, 511, 4095, 4096, 0xffffffff, 0x100000000, 0x7fffffffffffffff, 0x8000000000000000, 0xffffffffffffffff};
-enum { NUMBERS = sizeof numbers / sizeof *numbers, WIDE = sizeof wide / sizeof *wide, POWERS = 128 };
-
-/* A power of two, or the number before one. */
-static uint64_t power(int i) { return ((uint64_t)1 << i / 2) - (uint64_t)(i % 2); }
+#include "calls.h"
 
 static const nvmed_sizes good = {0x1000000, 0x400000, 4096, 1};
 static const uint32_t limits[17] = {1024, 1024, 1, 1, 1, 1, 1, 1, 1, 1, 1, 1, 1, 1, 1, 1, 1};
@@ -240,14 +194,6 @@ static void views(void) {
     want("free", NVMED_OK, nvmed_free(&m));
 }
 
-/* What a call has left where it puts its outputs. */
-static void left(const char *what, int right) {
-    if (!right) {
-        wrong++;
-        printf("%s: another output\n", what);
-    }
-}
-
 /* Each kind of event with one number that fits nothing: it is refused where the kind looks at that number, and nowhere else. */
 static void looked_at(nvmed *m) {
     enum { GUEST = 1, QUEUE = 2, LANE = 4, TAG = 8, SLOT = 16, STATUS = 32, FIELDS = 6, TOO_HIGH = 65536 };
@@ -328,8 +274,5 @@ int main(void) {
     want("free", NVMED_OK, nvmed_free(&m));
     want("free again", NVMED_NO_MEDIATOR, nvmed_free(&m));
     on_nothing(&m, NVMED_NO_MEDIATOR);
-    for (int i = 0; i < FUNCTIONS && called[i].name; i++)
-        printf("%.*s: %d calls\n", (int)strcspn(called[i].name, "("), called[i].name, called[i].calls);
-    printf("%d answered wrongly\n", wrong);
-    return wrong != 0;
+    return sum_up();
 }
