@@ -83,7 +83,7 @@ abbrev pub AreRingsAlone : SetUp → (before after : List ℕ) → Type 0
 AreRingsAlone s before after =
     (at : ℕ)
     → ((lane : ℕ) → lane < s.lanes
-      → (at < completion_slot s.geometry.mediator lane 0) ⊎ (completion_slot s.geometry.mediator lane ring_size ≤ at))
+    → (at < completion_slot s.geometry.mediator lane 0) ⊎ (completion_slot s.geometry.mediator lane ring_size ≤ at))
     → byte_in after at ≡ byte_in before at
 
 -- no log leads there
@@ -92,8 +92,8 @@ IsUnreached h memory = (first : World) (log : List Logged) (z : World) → Leads
 
 -- ---- what is promised
 
--- of every log that leads to it, in whatever memory and from whatever start, the whole promise holds: what each disciplined guest none of whose commands failed has seen, and
--- has, is a run of its own private controller's, and each event is contained
+-- of every log that leads to it, in whatever memory and from whatever start, the whole promise holds: what each disciplined guest none of whose commands
+-- failed has seen, and has, is a run of its own private controller's, and each event is contained
 abbrev pub IsPromised : Served → Type 0
 IsPromised h = (first : World) (memory : List ℕ) (log : List Logged) (z : World) → LeadsTo h first memory log z → Headline h.setup.geometry first log z
 

@@ -83,8 +83,8 @@ impl HostMediator {
 
     /// What is promised of the mediator as it is; it does nothing.
     ///
-    /// Of every log that leads to it, in whatever memory and from whatever start, the whole promise holds. Each event is contained: it reads and changes nothing of any guest but
-    /// its owner. What a disciplined guest has seen, its memory and its namespace are those of a run of its own commands on a private controller, where
+    /// Of every log that leads to it, in whatever memory and from whatever start, the whole promise holds. Each event is contained: it reads and changes
+    /// nothing of any guest but its owner. What a disciplined guest has seen, its memory and its namespace are those of a run of its own commands on a private controller, where
     /// the drive failed none of them.
     ///
     /// That there is such a log rests on the drive and on the host, which nothing here can prove. Between two calls the drive does what the definition's
