@@ -1,5 +1,5 @@
 -- A close, as a run of events after each log.
-use Rattle.std.proofs.Common.{◌≡◌, ℕ, List, [], ◌++◌, refl, sym, subst, ap, ◌∙◌, append-nil}
+use Rattle.std.proofs.Common.{◌≡◌, ℕ, List, [], sym, subst, ◌∙◌, append-nil}
 use Rattle.std.proofs.lemmas.List.Elements.{All-nil}
 use Rattle.nv_core.specs.Front.{IsLive, Side}
 use Rattle.nv_host.proofs.Accepted.{leads-live}
