@@ -4,8 +4,8 @@ use Rattle.std.proofs.lemmas.List.Elements.{All-nil}
 use Rattle.nv_core.specs.Front.{IsLive, Side}
 use Rattle.nv_host.proofs.Accepted.{leads-live}
 use Rattle.nv_host.proofs.Runs.{ended-by, lead-on}
-use Rattle.nv_host.specs.Ending.{AreIdle, IsIdle, IsIdleRun, IsRun, Leads}
 use Rattle.nv_host.specs.Closing.{IsEnding, IsEndedBy}
+use Rattle.nv_host.specs.Ending.{AreIdle, IsIdle, IsIdleRun, IsRun, Leads}
 use Rattle.nv_host.specs.Served.{IsServed, LeadsTo, Served}
 use Rattle.nv_world_model.specs.Geometry.{Geometry}
 use Rattle.nv_world_model.specs.SetUp.{SetUp}

@@ -10,8 +10,8 @@ use Rattle.nv_entry.specs.Completion.{completion}
 use Rattle.nv_entry.specs.Status.{StatusField, bit}
 use Rattle.nv_entry.specs.StatusCode.{done_with}
 use Rattle.nv_entry.specs.declared.status_code.StatusCode.TheVariants.{InternalError}
-use Rattle.nv_host.specs.Ending.{IsIdle}
 use Rattle.nv_host.proofs.TakenAll.{AllTaken, IsFound}
+use Rattle.nv_host.specs.Ending.{IsIdle}
 use Rattle.nv_laws_sound.proofs.Lists.{slice_get-below, slice_get-there, some-same}
 use Rattle.nv_laws_sound.proofs.Retags.{stands-is}
 use Rattle.nv_laws_sound.proofs.Rings.{next-below}

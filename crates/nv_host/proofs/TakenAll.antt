@@ -8,8 +8,8 @@ use Rattle.nv_core.proofs.FrontLaws.{controller-beside}
 use Rattle.nv_core.specs.Front.{IsBeside, IsLive, Side}
 use Rattle.nv_entry.specs.Submission.{cid_of}
 use Rattle.nv_host.proofs.Runs.{step-live}
-use Rattle.nv_host.specs.Ending.{Leads}
 use Rattle.nv_host.specs.Closing.{IsEnding, Takes}
+use Rattle.nv_host.specs.Ending.{Leads}
 use Rattle.nv_laws_sound.proofs.Lists.{slice_get-below, slice_get-there, some-same}
 use Rattle.nv_laws_sound.proofs.Rings.{far, far-less, far-some}
 use Rattle.nv_laws_sound.specs.Consistent.{IsLane}
