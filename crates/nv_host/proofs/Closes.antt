@@ -1,11 +1,11 @@
 -- A close, as a run of events after each log.
-use Rattle.std.proofs.Common.{◌≡◌, ℕ, List, [], ◌++◌, refl, sym, subst, ap, ◌∙◌, append-nil}
+use Rattle.std.proofs.Common.{◌≡◌, ℕ, List, [], sym, subst, ◌∙◌, append-nil}
 use Rattle.std.proofs.lemmas.List.Elements.{All-nil}
 use Rattle.nv_core.specs.Front.{IsLive, Side}
 use Rattle.nv_host.proofs.Accepted.{leads-live}
 use Rattle.nv_host.proofs.Runs.{ended-by, lead-on}
-use Rattle.nv_host.specs.Ending.{AreIdle, IsIdle, IsIdleRun, IsRun, Leads}
 use Rattle.nv_host.specs.Closing.{IsEnding, IsEndedBy}
+use Rattle.nv_host.specs.Ending.{AreIdle, IsIdle, IsIdleRun, IsRun, Leads}
 use Rattle.nv_host.specs.Served.{IsServed, LeadsTo, Served}
 use Rattle.nv_world_model.specs.Geometry.{Geometry}
 use Rattle.nv_world_model.specs.SetUp.{SetUp}

@@ -14,8 +14,8 @@ use Rattle.nv_entry.specs.Completion.{cid_of, phase_of, sqid_of, status_of}
 use Rattle.nv_entry.specs.Status.{StatusField, bit}
 use Rattle.nv_entry.specs.StatusCode.{done_with}
 use Rattle.nv_entry.specs.declared.status_code.StatusCode.TheVariants.{InternalError}
-use Rattle.nv_host.specs.Ending.{IsFailing, failed_at}
 use Rattle.nv_host.specs.Closing.{AreEach, IsLaneAlone, failed}
+use Rattle.nv_host.specs.Ending.{IsFailing, failed_at}
 use Rattle.nv_laws_sound.proofs.Lists.{count-set, some-same}
 use Rattle.nv_model.specs.declared.reply.Reply.TheVariants as reply
 use Rattle.nv_world_model.proofs.Seats.{slice_get-set, slice_get-set-other}

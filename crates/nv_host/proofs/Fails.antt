@@ -14,9 +14,9 @@ use Rattle.nv_host.proofs.Accepted.{lies-out}
 use Rattle.nv_host.proofs.Failed.{reaped-lanes}
 use Rattle.nv_host.proofs.Failures.{fails-beside, fails-idle, fault}
 use Rattle.nv_host.proofs.Runs.{lead-first, lead-on, lead-same, step-live}
-use Rattle.nv_host.specs.Ending.{IsIdleRun, IsRun}
 use Rattle.nv_host.proofs.TakenAll.{find, take-all}
 use Rattle.nv_host.specs.Closing.{Fails}
+use Rattle.nv_host.specs.Ending.{IsIdleRun, IsRun}
 use Rattle.nv_host.specs.Served.{IsServed, Served}
 use Rattle.nv_laws_sound.proofs.Lists.{slice_get-there}
 use Rattle.nv_laws_sound.specs.LaidOut.{IsLaidOut}

@@ -1,6 +1,6 @@
 -- A command that the physical controller has fails, in a world where no completion of its lane waits: what is written, and that none waits after it was
 -- read.
-use Rattle.std.proofs.Common.{◌≡◌, ℕ, zero, suc, ◌+◌, ◌<◌, ◌≤◌, ◌⊎◌, inl, inr, Bool, true, false, not, cond, ◌==◌, eqb-true, List, [], ◌∷◌, length, set, slice_get, Option, Some, None, arith, refl, sym, ap, ◌∙◌, subst}
+use Rattle.std.proofs.Common.{◌≡◌, ℕ, ◌<◌, Bool, true, false, not, ◌==◌, eqb-true, List, set, slice_get, Option, Some, None, arith, refl, sym, ap, ◌∙◌}
 use Rattle.nv_core.proofs.Besides.{FliesToo, flies-too}
 use Rattle.nv_core.proofs.FrontLaws.{controller-beside}
 use Rattle.nv_core.proofs.KeptStates.{tail-of}
@@ -10,26 +10,22 @@ use Rattle.nv_entry.specs.Completion.{completion}
 use Rattle.nv_entry.specs.Status.{StatusField, bit}
 use Rattle.nv_entry.specs.StatusCode.{done_with}
 use Rattle.nv_entry.specs.declared.status_code.StatusCode.TheVariants.{InternalError}
-use Rattle.nv_host.proofs.Runs.{step-live}
-use Rattle.nv_host.specs.Ending.{IsIdle}
 use Rattle.nv_host.proofs.TakenAll.{AllTaken, IsFound}
+use Rattle.nv_host.specs.Ending.{IsIdle}
 use Rattle.nv_laws_sound.proofs.Lists.{slice_get-below, slice_get-there, some-same}
 use Rattle.nv_laws_sound.proofs.Retags.{stands-is}
 use Rattle.nv_laws_sound.proofs.Rings.{next-below}
 use Rattle.nv_laws_sound.proofs.phases.Rounds.{slot-tells, wanted-same}
 use Rattle.nv_laws_sound.specs.Consistent.{IsBetween, IsFlying}
-use Rattle.nv_laws_sound.specs.LaidOut.{IsLaidOut}
 use Rattle.nv_laws_sound.specs.Phased.{IsPhased, phase_at}
-use Rattle.nv_laws_sound.specs.Unplaced.{unplaced_lane}
 use Rattle.nv_model.specs.Memory.{byte_in, stored}
 use Rattle.nv_model.specs.Queue.{is_empty, next_slot}
-use Rattle.nv_model.specs.declared.reply.Reply.TheVariants as reply
 use Rattle.nv_world_model.proofs.Seats.{slice_get-set}
 use Rattle.nv_world_model.specs.Area.{completion_slot, queue_pair, ring_size}
 use Rattle.nv_world_model.specs.Device.{DeviceLane, Held, completion_posted, completion_written, next_phase}
 use Rattle.nv_world_model.specs.Geometry.{Geometry}
 use Rattle.nv_world_model.specs.Share.{Share}
-use Rattle.nv_world_model.specs.Step.{After, completion_read, device_fail, device_posted, for_held, for_one, replied, step}
+use Rattle.nv_world_model.specs.Step.{completion_read, device_fail, device_posted, for_held, for_one, step}
 use Rattle.nv_world_model.specs.World.{Answered, Command, Flying, InDevice, Lane, Queued, Standing, Tag, World, tag_changed}
 use Rattle.nv_world_model.specs.declared.event.Event.{Event}
 use Rattle.nv_world_model.specs.declared.event.Event.TheVariants as event

@@ -17,18 +17,18 @@ use Rattle.nv_entry.specs.Completion.{phase_of}
 use Rattle.nv_entry.specs.Status.{StatusField, bit}
 use Rattle.nv_entry.specs.StatusCode.{done_with}
 use Rattle.nv_entry.specs.declared.status_code.StatusCode.TheVariants.{InternalError, Success}
-use Rattle.nv_host.specs.Ending.{given_up_by}
 use Rattle.nv_host.proofs.Runs.{lead-step}
-use Rattle.nv_host.specs.Ending.{IsIdle, IsIdleRun}
 use Rattle.nv_host.specs.Closing.{AreEach, GivesUp, IsLaneAlone, given_up}
+use Rattle.nv_host.specs.Ending.{given_up_by}
+use Rattle.nv_host.specs.Ending.{IsIdle, IsIdleRun}
 use Rattle.nv_laws_sound.proofs.CountedTags.{group-first}
 use Rattle.nv_laws_sound.proofs.Folds.{group-distinct, tag-part}
 use Rattle.nv_laws_sound.proofs.Groupings.{goes-of}
 use Rattle.nv_laws_sound.proofs.Lists.{slice_get-below, some-same}
 use Rattle.nv_laws_sound.proofs.Numbers.{AreDistinct, all-at, numbers-are, numbers_where}
 use Rattle.nv_laws_sound.proofs.Stages.{filter-at, reading-group}
-use Rattle.nv_laws_sound.specs.LaidOut.{IsLaidOut}
 use Rattle.nv_laws_sound.specs.Groups.{AllAnswered, AllHanded, AllRead, AreGroups, AtOnce, Handed, IsGroup, NoPart, Part, Reading, command_of, goes_by, group_of, part_of, parts_of}
+use Rattle.nv_laws_sound.specs.LaidOut.{IsLaidOut}
 use Rattle.nv_model.specs.Transcript.{ReadDone}
 use Rattle.nv_model.specs.declared.reply.Reply.{Reply}
 use Rattle.nv_model.specs.declared.reply.Reply.TheVariants as reply

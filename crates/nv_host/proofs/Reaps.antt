@@ -1,26 +1,24 @@
 -- A Reap of a mediator that is served.
-use Rattle.std.proofs.Common.{◌≡◌, ℕ, ◌<◌, Bool, true, false, cond, List, length, slice_get, Option, Some, None, refl, sym, subst, ap, ◌∙◌}
+use Rattle.std.proofs.Common.{◌≡◌, ℕ, ◌<◌, List, length, slice_get, Some, refl, sym, subst, ap, ◌∙◌}
 use Rattle.std.specs.Prelude.{Err, IfOk, Ok, OnErr, Result}
-use Rattle.std.specs.Result.{result_ok}
 use Rattle.nv_core.proofs.FrontLaws.{reaped-lent}
 use Rattle.nv_core.proofs.Sides.{own-side, own-world}
 use Rattle.nv_core.specs.Front.{IsBeside, IsLive, IsReaped, IsStepBeside, Side, with_side}
 use Rattle.nv_core.specs.Kept.{IsLent}
-use Rattle.nv_core.specs.Reaping.{answer_of, is_new, names_command, next_completion, waits_in}
 use Rattle.nv_host.proofs.Accepted.{leads-live}
 use Rattle.nv_host.proofs.Calls.{same-served, served-lent, serving}
 use Rattle.nv_host.proofs.Runs.{lead-step}
-use Rattle.nv_host.specs.Ending.{AreIdle, IsRun}
 use Rattle.nv_host.specs.Closing.{Reads}
+use Rattle.nv_host.specs.Ending.{IsRun}
 use Rattle.nv_host.specs.Served.{IsNext, IsServed, IsUnreached, Served}
 use Rattle.nv_laws_front.proofs.Reached.{call-reached}
 use Rattle.nv_laws_sound.proofs.CountedActs.{still-counted}
 use Rattle.nv_laws_sound.proofs.CountedEvents.{reaped-counted}
-use Rattle.nv_laws_sound.proofs.Lists.{slice_get-there, some-same}
+use Rattle.nv_laws_sound.proofs.Lists.{slice_get-there}
 use Rattle.nv_laws_sound.specs.Counted.{IsCounted}
+use Rattle.nv_laws_sound.specs.LaidOut.{IsLaidOut}
 use Rattle.nv_model.specs.declared.reply.Reply.{Reply}
 use Rattle.nv_model.specs.declared.reply.Reply.TheVariants as reply
-use Rattle.nv_laws_sound.specs.LaidOut.{IsLaidOut}
 use Rattle.nv_world_model.specs.Geometry.{Geometry}
 use Rattle.nv_world_model.specs.Seat.{completion_at}
 use Rattle.nv_world_model.specs.World.{Lane, World}
@@ -98,34 +96,7 @@ module _ {E : Type 0} (h o : Served) (view : h ≡ o) (is : IsServed h) (lane : 
 
 -- ---- as a run of a lane that is closed
 
--- what is answered neither as done nor as stray was not there
-done-only : {E : Type 0} (r : Result Reply E) → result_ok r ≡ Some reply.Done → ◌≡◌ {A = Result Reply E} r (Ok reply.Done)
-done-only (Ok x) e = ap (λ (y : Reply). Ok y) (some-same x reply.Done e)
-done-only (Err x) e = cc
-
-must-stray : {E : Type 0} (P : Type 0) (r : Result Reply E) → result_ok r ≡ None → OnErr r P → P
-must-stray P (Ok x) e stray = cc
-must-stray P (Err x) e stray = stray
-
-idle-by : {E : Type 0} (P : Type 0) (r : Result Reply E) (new names : Bool)
-    → result_ok r ≡ cond new (cond names (Some reply.Done) None) (Some reply.Idle)
-    → (◌≡◌ {A = Result Reply E} r (Ok reply.Done) → ⊥) → OnErr r P → (P → ⊥) → new ≡ false
-idle-by P r false names told not_done stray never = refl
-idle-by P r true true told not_done stray never = absurd (not_done (done-only r told))
-idle-by P r true false told not_done stray never = absurd (never (must-stray P r told stray))
-
 module _ {E : Type 0} (geometry : Geometry) (lane : ℕ) (old new : Side) (memory : List ℕ) (result : Result Reply E) where
-  pub unread-idle : result_ok result ≡ answer_of geometry lane (slice_get old.lanes lane) memory → (◌≡◌ {A = Result Reply E} result (Ok reply.Done) → ⊥)
-      → OnErr result ((w : World) → IsBeside old memory w → IsLive geometry w → ⊥) → AreIdle geometry lane old memory
-  unread-idle told not_done nowhere w on live = by (slice_get old.lanes lane) refl
-    where
-      by : (l : Option Lane) → slice_get old.lanes lane ≡ l → waits_in geometry lane l memory ≡ false
-      by None none = refl
-      by (Some l) found =
-          idle-by ((w : World) → IsBeside old memory w → IsLive geometry w → ⊥) result
-          (is_new l (next_completion geometry lane l memory)) (names_command lane l (next_completion geometry lane l memory))
-          (told ∙ ap (λ (x : Option Lane). answer_of geometry lane x memory) found) not_done nowhere (λ never. never w on live)
-
   pub read-run : (host_bytes : ℕ) → IsLaidOut host_bytes (length old.lanes) geometry
       → IfOk result (λ r. (w : World) → IsBeside old memory w → IsLive geometry w → IsStepBeside geometry (event.Reap lane) w r new memory)
       → ◌≡◌ {A = Result Reply E} result (Ok reply.Done) → IsRun geometry lane old memory new memory

@@ -1,23 +1,21 @@
 -- Events by which a lane's commands end, one after the other, from one world to another, and the log of them.
-use Rattle.std.proofs.Common.{◌≡◌, ℕ, ◌<◌, Bool, false, List, [], ◌∷◌, ◌++◌, length, map, slice_get, refl, sym, ap, ◌∙◌, subst, append_assoc, append-nil, lit<}
+use Rattle.std.proofs.Common.{◌≡◌, ℕ, List, [], ◌∷◌, ◌++◌, length, refl, sym, ap, ◌∙◌, subst, append_assoc, append-nil, lit<}
 use Rattle.std.proofs.lemmas.List.{length-map}
 use Rattle.std.proofs.lemmas.List.Elements.{All-append, All-cons, All-head, All-nil, All-tail}
 use Rattle.std.specs.List.{All}
-use Rattle.nv_core.specs.Front.{IsBeside, IsLive, IsStepBeside, Side}
-use Rattle.nv_host.specs.Ending.{IsIdleRun, IsRun, Leads}
+use Rattle.nv_core.specs.Front.{IsBeside, IsLive, Side}
 use Rattle.nv_host.specs.Closing.{Fails, GivesUp, IsEnding, IsEndedBy, Reads, Takes}
+use Rattle.nv_host.specs.Ending.{IsIdleRun, IsRun, Leads}
 use Rattle.nv_host.specs.Served.{LeadsTo, Served}
 use Rattle.nv_laws.specs.Alike.{HasFittingStatus}
-use Rattle.nv_laws_sound.proofs.ManyLanes.{lanes-kept}
 use Rattle.nv_laws_sound.proofs.Steps.{step-consistent}
 use Rattle.nv_laws_sound.proofs.phases.Steps.{step-phased}
 use Rattle.nv_laws_sound.specs.LaidOut.{IsLaidOut}
 use Rattle.nv_laws_sound.specs.Unplaced.{unplaced_lane}
 use Rattle.nv_mediator.proofs.Logs.{replay-more}
-use Rattle.nv_model.specs.declared.reply.Reply.{Reply}
 use Rattle.nv_world_model.specs.Geometry.{Geometry}
 use Rattle.nv_world_model.specs.Log.{IsReplay}
-use Rattle.nv_world_model.specs.Step.{After, replay, step}
+use Rattle.nv_world_model.specs.Step.{replay, step}
 use Rattle.nv_world_model.specs.World.{Lane, World}
 use Rattle.nv_world_model.specs.declared.event.Event.{Event}
 use Rattle.nv_world_model.specs.declared.logged.Logged.{Logged}

@@ -1,5 +1,5 @@
 -- The physical controller takes what waits in a lane's submission ring, entry after entry, until none is left.
-use Rattle.std.proofs.Common.{◌≡◌, ℕ, zero, suc, ◌+◌, ◌<◌, ◌⊎◌, inl, inr, Bool, false, cond, List, [], ◌∷◌, length, set, slice_get, Option, Some, None, arith, refl, sym, ap, ◌∙◌, subst}
+use Rattle.std.proofs.Common.{◌≡◌, ℕ, zero, suc, ◌+◌, ◌<◌, ◌⊎◌, inl, inr, Bool, cond, List, [], ◌∷◌, length, slice_get, Option, Some, None, arith, refl, sym, ap, ◌∙◌, subst}
 use Rattle.std.proofs.lemmas.Bool.{cases_eq, ne_eqb}
 use Rattle.std.proofs.lemmas.List.Elements.{All-cons, All-nil}
 use Rattle.std.specs.Prelude.{◌≢◌}
@@ -8,21 +8,21 @@ use Rattle.nv_core.proofs.FrontLaws.{controller-beside}
 use Rattle.nv_core.specs.Front.{IsBeside, IsLive, Side}
 use Rattle.nv_entry.specs.Submission.{cid_of}
 use Rattle.nv_host.proofs.Runs.{step-live}
-use Rattle.nv_host.specs.Ending.{Leads}
 use Rattle.nv_host.specs.Closing.{IsEnding, Takes}
+use Rattle.nv_host.specs.Ending.{Leads}
 use Rattle.nv_laws_sound.proofs.Lists.{slice_get-below, slice_get-there, some-same}
 use Rattle.nv_laws_sound.proofs.Rings.{far, far-less, far-some}
 use Rattle.nv_laws_sound.specs.Consistent.{IsLane}
 use Rattle.nv_laws_sound.specs.LaidOut.{IsLaidOut}
 use Rattle.nv_laws_sound.specs.Phased.{IsPhased}
 use Rattle.nv_laws_sound.specs.Unplaced.{unplaced_lane}
-use Rattle.nv_model.specs.Queue.{is_empty, next_slot}
+use Rattle.nv_model.specs.Queue.{next_slot}
 use Rattle.nv_model.specs.declared.reply.Reply.TheVariants as reply
 use Rattle.nv_world_model.proofs.Seats.{slice_get-set}
 use Rattle.nv_world_model.specs.Area.{ring_size}
 use Rattle.nv_world_model.specs.Device.{DeviceLane, entry_taken, front_entry}
 use Rattle.nv_world_model.specs.Geometry.{Geometry}
-use Rattle.nv_world_model.specs.Step.{After, device_take, device_took, for_one, replay, replied, standing_at, step}
+use Rattle.nv_world_model.specs.Step.{device_take, device_took, for_one, replay, replied, standing_at, step}
 use Rattle.nv_world_model.specs.World.{Ended, Flying, Free, InDevice, Lane, Standing, Tag, Taken, World, changed_at, tag_of, with_device}
 use Rattle.nv_world_model.specs.declared.event.Event.{Event}
 use Rattle.nv_world_model.specs.declared.event.Event.TheVariants as event

@@ -90,9 +90,9 @@ impl HostMediator {
     /// That there is such a log rests on the drive and on the host, which nothing here can prove. Between two calls the drive does what the definition's
     /// events of the physical controller do, DevTake, DevMove, DevPost, DevFail and Keep, in any order and number, and the memory is afterwards as they
     /// make it. Nothing else changes the memory or the disk but guests, whose stores are events of their own, each to its guest's memory alone. Then the
-    /// calls, in the order in which they were made, and the drive's events between them are a log that leads there. In the place of a
-    /// [`HostMediator::close`] stand the events that its contract gives: the drive's own among them are those of a drive that takes all that it was handed and
-    /// fails it. The host has stopped the drive by then, and hands it nothing more of that lane.
+    /// calls, in the order in which they were made, and the drive's events between them are a log that leads there. A [`HostMediator::close`] is the events
+    /// that its contract gives. Some of these are the drive's: it takes and fails what it was handed. It doesn't do them itself: the host has stopped it before,
+    /// so that it does nothing more of that lane.
     #[inline(always)]
     pub fn promise(&self)
         ensures accepted { IsAccepted self.now.setup }

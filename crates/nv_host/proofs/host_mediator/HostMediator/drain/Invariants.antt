@@ -1,7 +1,7 @@
 use Rattle.std.proofs.Common.{◌≡◌, ℕ, slice_get}
 use Rattle.nv_host.proofs.Failed.{in_flight}
-use Rattle.nv_host.specs.Ending.{IsRun}
 use Rattle.nv_host.specs.Closing.{AreReaped, IsLaneAlone}
+use Rattle.nv_host.specs.Ending.{IsRun}
 use Rattle.nv_host.proofs.host_mediator.HostMediator.drain.Given as goal
 
 abbrev pub invariant-loop : goal.invariant-loop

@@ -1,7 +1,7 @@
 use Rattle.std.proofs.Common.{◌≡◌}
 use Rattle.nv_host.proofs.Failed.{failed_below}
-use Rattle.nv_host.specs.Ending.{IsIdleRun}
 use Rattle.nv_host.specs.Closing.{AreEach, IsLaneAlone, IsRingAlone}
+use Rattle.nv_host.specs.Ending.{IsIdleRun}
 use Rattle.nv_host.proofs.host_mediator.HostMediator.fail_each.Given as goal
 
 abbrev pub invariant-loop-tag : goal.invariant-loop-tag

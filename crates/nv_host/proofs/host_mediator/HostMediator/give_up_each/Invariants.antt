@@ -1,7 +1,7 @@
 use Rattle.std.proofs.Common.{◌≡◌, ℕ, List}
 use Rattle.nv_host.proofs.GivenUp.{given_up_below}
-use Rattle.nv_host.specs.Ending.{IsIdleRun}
 use Rattle.nv_host.specs.Closing.{AreEach, IsLaneAlone}
+use Rattle.nv_host.specs.Ending.{IsIdleRun}
 use Rattle.nv_host.proofs.host_mediator.HostMediator.give_up_each.Given as goal
 
 abbrev pub invariant-loop-tag : goal.invariant-loop-tag

@@ -2,9 +2,9 @@ use Rattle.std.proofs.Common.{ℕ, List, [], length, refl, replicate, subst}
 use Rattle.std.proofs.lemmas.List.{length-replicate}
 use Rattle.nv_host.proofs.Calls.{call-served, many-same, served-lent}
 use Rattle.nv_host.proofs.GivenUp.{gives-alone, gives-each, gives-run}
+use Rattle.nv_host.specs.Closing.{AreEach, IsLaneAlone}
 use Rattle.nv_host.specs.Ending.{given_up_by}
 use Rattle.nv_host.specs.Ending.{IsIdleRun}
-use Rattle.nv_host.specs.Closing.{AreEach, IsLaneAlone}
 use Rattle.nv_host.specs.Served.{Served}
 use Rattle.nv_world_model.specs.declared.event.Event.TheVariants as event
 use Rattle.nv_host.proofs.host_mediator.HostMediator.give_up_led.Goals as goal
