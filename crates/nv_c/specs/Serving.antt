@@ -4,9 +4,17 @@ use Rattle.nv_c.specs.Calls.{closed, dword_told, idle, ignored, no_memory, no_su
 use Rattle.nv_c.specs.Names.{Names}
 use Rattle.nv_c.specs.declared.event.Event as c
 use Rattle.nv_c.specs.declared.rings.Rings.{Rings}
+use Rattle.nv_c.specs.declared.working.Scope.{Scope}
+use Rattle.nv_c.specs.declared.working.Scope.TheVariants as scope
 use Rattle.nv_core.specs.Seat.{bytes_told}
 use Rattle.nv_host.specs.Closing.{AreDone, IsLaneAlone, IsOver, IsRingAlone}
 use Rattle.nv_host.specs.Served.{IsDone, IsNext, IsUnreached, LeadsTo, Served, is_closed, is_offered, is_reap, is_served}
+use Rattle.nv_host.specs.Work.{IsWorked, scene}
+use Rattle.nv_host.specs.declared.worked.Scope.{Scope as Hosts}
+use Rattle.nv_host.specs.declared.worked.Scope.TheVariants as hosts
+use Rattle.nv_host.specs.declared.worked.Why.{Why}
+use Rattle.nv_host.specs.declared.worked.Why.TheVariants as why
+use Rattle.nv_host.specs.declared.worked.Worked.{Worked}
 use Rattle.nv_mediator.specs.Hosted.{Hosted, may_want}
 use Rattle.nv_model.specs.Controller.{Controller, pending}
 use Rattle.nv_model.specs.declared.reply.Reply.{Reply}
@@ -62,6 +70,27 @@ IsTold e told before after old status new =
 -- of the event that a struct names
 abbrev pub IsNamedTold : c.Event → (told : ℕ) → (before after : List ℕ) → (old : Served) → (status : ℕ) → (new : Served) → Type 0
 IsNamedTold named told before after old status new = (e : Event) × Names named e × IsTold e told before after old status new
+
+-- ---- work
+
+-- a scope, as the host's mediator has it
+abbrev pub hosts_scope : Scope → Hosts
+hosts_scope (scope.Guest guest) = hosts.Guest guest
+hosts_scope (scope.Lane lane) = hosts.Lane lane
+hosts_scope scope.All = hosts.All
+
+-- what a call that carries out what is due returns, by why it ended
+abbrev pub status_of_why : Why → ℕ
+status_of_why why.Enough = ok
+status_of_why why.Starved = no_memory
+status_of_why why.GaveUp = no_memory
+status_of_why (why.Stray lane) = stray
+
+-- what is due of a scope was carried out, so many events
+abbrev pub IsWorkLent : Scope → (most done : ℕ) → (before after : List ℕ) → (old : Served) → (status : ℕ) → (new : Served) → Type 0
+IsWorkLent s most done before after old status new =
+    (worked : Worked) × (worked.done ≡ done) × (status ≡ status_of_why worked.why)
+    × IsWorked (hosts_scope s) most worked (scene old before) (scene new after)
 
 -- ---- the drive's queues
 

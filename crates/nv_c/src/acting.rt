@@ -1,8 +1,8 @@
 //! What is done to the mediator of a handle.
 
 ghost use Rattle.std.specs.Prelude.{◌≡◌, ◌⊎◌, None, Some, length};
-ghost use Rattle.nv_c.specs.Calls.{Either, HasNone, IsDone, IsError, IsLeft, IsLoaded, IsRead, IsStepped, IsTold, IsWorkTold, Lent, On, dword_told};
-ghost use Rattle.nv_c.specs.Serving.{IsLoaded as IsLoadedLent, IsRead as IsReadLent, IsServed, IsStepped as IsSteppedLent, IsTold as IsToldLent};
+ghost use Rattle.nv_c.specs.Calls.{Either, IsDone, IsError, IsLeft, IsLoaded, IsRead, IsStepped, IsTold, IsWorkTold, Lent, On, dword_told};
+ghost use Rattle.nv_c.specs.Serving.{IsLoaded as IsLoadedLent, IsRead as IsReadLent, IsServed, IsStepped as IsSteppedLent, IsTold as IsToldLent, IsWorkLent};
 
 use crate::handle::Nvmed;
 use crate::held::Held;
@@ -259,25 +259,36 @@ pub(crate) fn work(
     scope: Scope,
     most: u64,
     done: &mut u64,
+    memory: &mut [u8],
 ) -> u32
-    ensures value { On (Either (IsWorkTold scope most done.new) HasNone) handle.old.hosted result handle.new.hosted }
+    ensures value { On (Either (IsWorkTold scope most done.new) (Lent (IsWorkLent scope most done.new) memory.old memory.new))
+        handle.old.hosted result handle.new.hosted }
     ensures none { handle.old.hosted ≡ None → done.new ≡ done.old }
+    ensures left { IsLeft handle.old.hosted memory.old memory.new }
 {
     let Some(mut held) = handle.take(alloc) else {
         return status::NO_MEDIATOR;
     };
-    let answer = worked(alloc, &mut held, scope, most, done);
+    let answer = worked(alloc, &mut held, scope, most, done, memory);
     handle.put(alloc, held);
     answer
 }
 
 // What is due, of a mediator of either kind.
-fn worked(alloc: Global, held: &mut Held, scope: Scope, most: u64, done: &mut u64) -> u32
-    ensures { Either (IsWorkTold scope most done.new) HasNone held.old result held.new }
+fn worked(
+    alloc: Global,
+    held: &mut Held,
+    scope: Scope,
+    most: u64,
+    done: &mut u64,
+    memory: &mut [u8],
+) -> u32
+    ensures value { Either (IsWorkTold scope most done.new) (Lent (IsWorkLent scope most done.new) memory.old memory.new) held.old result held.new }
+    ensures left { IsLeft (Some held.old) memory.old memory.new }
 {
     match held {
         Held::Simulated(simulated) => simulated_work(alloc, simulated, scope, most, done),
-        Held::Serving(_mediator) => status::NO_SUCH,
+        Held::Serving(mediator) => serving::work(alloc, mediator, scope, most, done, memory),
     }
 }
 

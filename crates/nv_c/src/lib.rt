@@ -22,7 +22,7 @@ ghost use Rattle.nv_c.specs.Calls.{Either, HasNone, IsBlockTold, IsDone, IsError
 ghost use Rattle.nv_c.specs.Calls.{IsRead, IsServing, IsStepped, IsWorkTold, Lent, OfGuest, On, no_mediator, no_such};
 ghost use Rattle.nv_c.specs.Names.{NamesNone};
 ghost use Rattle.nv_c.specs.Serving.{IsLoaded as IsLoadedLent, IsNamedStep as IsNamedStepLent, IsNamedTold as IsNamedToldLent, IsRead as IsReadLent};
-ghost use Rattle.nv_c.specs.Serving.{HasNoLane, HasNoRings, HasNoVector, IsClosed, IsRaisedTold, IsRingsTold, IsServed, IsStepped as IsSteppedLent};
+ghost use Rattle.nv_c.specs.Serving.{IsWorkLent, HasNoLane, HasNoRings, HasNoVector, IsClosed, IsRaisedTold, IsRingsTold, IsServed, IsStepped as IsSteppedLent};
 ghost use Rattle.nv_c.specs.Tables.{setup_of};
 ghost use Rattle.nv_c.specs.Views.{IsShown};
 ghost use Rattle.nv_c.specs.Work.{scope_numbered};
@@ -308,13 +308,16 @@ pub extern "C" fn nvmed_raw_work(
     number: u32,
     most: u64,
     done: &mut u64,
+    memory: &mut [u8],
 ) -> u32
     ensures value { MatchOption (scope_numbered scope number) ((result ≡ no_such) × (handle.new.hosted ≡ handle.old.hosted) × (done.new ≡ done.old))
-        (λ s. On (Either (IsWorkTold s most done.new) HasNone) handle.old.hosted result handle.new.hosted) }
+        (λ s. On (Either (IsWorkTold s most done.new) (Lent (IsWorkLent s most done.new) memory.old memory.new))
+        handle.old.hosted result handle.new.hosted) }
     ensures none { handle.old.hosted ≡ None → done.new ≡ done.old }
+    ensures left { IsLeft handle.old.hosted memory.old memory.new }
 {
     match Scope::of(scope, number) {
-        Some(scope) => acting::work(alloc, handle, scope, most, done),
+        Some(scope) => acting::work(alloc, handle, scope, most, done, memory),
         None => status::NO_SUCH,
     }
 }

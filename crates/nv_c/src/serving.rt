@@ -2,11 +2,12 @@
 
 ghost use Rattle.std.specs.Prelude.{◌≡◌, ◌==◌, ◌⊎◌, MatchResult, length};
 ghost use Rattle.nv_c.specs.Calls.{IsError, Lent, no_memory, status_of};
-ghost use Rattle.nv_c.specs.Serving.{IsClosed, IsLoaded, IsRead, IsServed, IsStepped, IsTold};
+ghost use Rattle.nv_c.specs.Serving.{IsClosed, IsLoaded, IsRead, IsServed, IsStepped, IsTold, IsWorkLent, hosts_scope, status_of_why};
 
 use crate::acting::dword_of;
 use crate::status;
-use nv_host::HostMediator;
+use crate::working::Scope;
+use nv_host::{HostMediator, Scope as HostScope, Why as HostWhy};
 use nv_mem::NoMemory;
 use nv_model::{Act, Reply};
 use nv_world_model::Event;
@@ -164,4 +165,45 @@ pub(crate) fn close(mediator: &mut HostMediator, lane: u8, memory: &mut [u8]) ->
     }
     mediator.close(lane, memory);
     status::OK
+}
+
+/// What is due of a scope is carried out, `most` events at most: what it is answered, and how many there were.
+pub(crate) fn work(
+    alloc: Global,
+    mediator: &mut HostMediator,
+    scope: Scope,
+    most: u64,
+    done: &mut u64,
+    memory: &mut [u8],
+) -> u32
+    ensures { Lent (IsWorkLent scope most done.new) memory.old memory.new mediator.old result mediator.new }
+{
+    if !fits(mediator, memory) {
+        return status::OTHER_MEMORY;
+    }
+    let worked = mediator.work(alloc, hosts_scope(scope), most, memory);
+    *done = worked.done;
+    of_end(worked.why)
+}
+
+// A scope, as the host's mediator has it.
+fn hosts_scope(scope: Scope) -> HostScope
+    ensures { result ≡ hosts_scope scope }
+{
+    match scope {
+        Scope::Guest(guest) => HostScope::Guest(guest),
+        Scope::Lane(lane) => HostScope::Lane(lane),
+        Scope::All => HostScope::All,
+    }
+}
+
+// What it is answered, by why it ended.
+fn of_end(why: HostWhy) -> u32
+    ensures { result ≡ status_of_why why }
+{
+    match why {
+        HostWhy::Enough => status::OK,
+        HostWhy::Starved | HostWhy::GaveUp => status::NO_MEMORY,
+        HostWhy::Stray(_lane) => status::STRAY,
+    }
 }
