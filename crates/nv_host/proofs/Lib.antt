@@ -3,7 +3,12 @@ pub mod Calls
 pub mod Dues
 pub mod Failed
 pub mod GivenUp
+pub mod ListJobs
 pub mod Over
+pub mod Readings
 pub mod Reaps
+pub mod Rests
 pub mod Ring
+pub mod Rounds
 pub mod Starts
+pub mod Works

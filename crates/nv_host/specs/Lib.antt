@@ -1,2 +1,4 @@
 pub mod Closing
+pub mod Passes
 pub mod Served
+pub mod Work
