@@ -6,6 +6,8 @@
 //! Beside it goes a `Mediator`, event by event ([`pair::Pair`]): both must answer each event alike, find the same events due, and end with the same
 //! memory and disk. [`failing`] shows that a difference is found.
 //!
+//! In [`working`] what is due is carried out by `HostMediator::work` alone, beside a drive.
+//!
 //! The memory ([`watched::Watched`]) marks each byte that a call reads or writes. So it shows whether a call reads a byte twice, or reads what it wrote
 //! itself.
 //!
@@ -46,3 +48,5 @@ mod two_guests;
 mod watched;
 #[cfg(test)]
 mod wild;
+#[cfg(test)]
+mod working;

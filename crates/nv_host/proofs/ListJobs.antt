@@ -132,7 +132,7 @@ list-job old new lane tag addr len job bytes is made =
     ∙ ap (λ (ls : List Lane). job_in lane tag (tag_in (slice_get ls lane) tag)) (sym on.world.lanes)
     ∙ job-in a.world.lanes lane tag
     ∙ by_tag geometry w lane tag addr len job bytes a.world (tag_of w lane tag) refl is
-      (ap (λ (r : Reply). let x : After = record { world = a.world; reply = r } in x) (sym on.reply))
+    (ap (λ (r : Reply). let x : After = record { world = a.world; reply = r } in x) (sym on.reply))
   where
     geometry : Geometry
     geometry = old.served.setup.geometry

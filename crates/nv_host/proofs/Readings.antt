@@ -8,8 +8,7 @@ use Rattle.nv_host.proofs.ListJobs.{job_read, list-job}
 use Rattle.nv_host.proofs.Rests.{own-job, true-false}
 use Rattle.nv_host.proofs.Works.{leads_one, work-left}
 use Rattle.nv_host.specs.Passes.{IsOwn, IsReading, IsWaiting, MayGiveUp}
-use Rattle.nv_host.specs.Served.{IsDone, Served}
-use Rattle.nv_host.specs.Work.{IsIn, IsMade, IsWork, Leads, Rests, Scene, scene}
+use Rattle.nv_host.specs.Work.{IsMade, IsWork, Leads, Rests, Scene}
 use Rattle.nv_host.specs.declared.worked.Scope.TheVariants as scope
 use Rattle.nv_laws_sound.proofs.Lists.{some-same}
 use Rattle.nv_model.specs.Transcript.{Outcome, ReadDone, Settled, Wanted}
@@ -100,12 +99,13 @@ pub plan-work : (guest lane tag : ℕ) (s : Scene) (job : Job) (given : Guest) (
 plan-work guest lane tag s job given made held there whose is =
     let own = own-job lane tag (tag_at s lane tag) job there in
     let its : slice_get s.served.setup.geometry.guests job.guest ≡ Some given =
-        ap (slice_get s.served.setup.geometry.guests) (job-guest s guest lane tag job held there) ∙ whose in
+    ap (slice_get s.served.setup.geometry.guests) (job-guest s guest lane tag job held there) ∙ whose in
     let at : tag_at s job.lane job.tag ≡ tag_at s lane tag = ap (λ (n : ℕ). tag_at s n job.tag) own.on ∙ ap (λ (n : ℕ). tag_at s lane n) own.under in
     let waiting = waiting-guest s guest lane tag job given held there its in
-    subst (λ (p : MadePlan). IsCurrentIn s.served.setup.geometry s.served.side.lanes p × IsWork (scope.Guest guest) s (event.Submit p.job.lane p.job.tag)) (sym is.1.1)
-    (record { of_tag = subst (λ (t : Option Tag). IsOfTag t job) (sym at) own.current; made_with = its },
-    waiting-submit guest s job given is.0 waiting is.1.0)
+    subst (λ (p : MadePlan). IsCurrentIn s.served.setup.geometry s.served.side.lanes p × IsWork (scope.Guest guest) s (event.Submit p.job.lane p.job.tag)) (sym is.1.1) (
+      record { of_tag = subst (λ (t : Option Tag). IsOfTag t job) (sym at) own.current; made_with = its },
+      waiting-submit guest s job given is.0 waiting is.1.0,
+    )
 
 pub own-may : (guest lane tag : ℕ) (s : Scene) (job : Job) → IsOwn s guest lane tag → job_in lane tag (tag_at s lane tag) ≡ Some job → MayGiveUp guest s lane tag
 own-may guest lane tag s job held there =

@@ -1,23 +1,22 @@
 -- Where nothing of a scope is left to be done.
-use Rattle.std.proofs.Common.{◌≡◌, refl, sym, subst, ap, ◌∙◌, ℕ, zero, suc, ◌<◌, ◌≤◌, Bool, true, false, ◌&&◌, ◌==◌, cond, inl, inr, arith, eqb-true, nat_lt}
-use Rattle.std.proofs.Common.{List, [], ◌∷◌, length, map, slice_get, Option, Some, None, is_some}
+use Rattle.std.proofs.Common.{◌≡◌, refl, sym, subst, ap, ◌∙◌, ℕ, ◌<◌, ◌≤◌, Bool, true, false, ◌&&◌, ◌==◌, cond, inl, inr, arith, eqb-true, nat_lt}
+use Rattle.std.proofs.Common.{List, length, slice_get, Option, Some, None}
 use Rattle.std.proofs.lemmas.Bool.{cases_lt}
 use Rattle.std.proofs.lemmas.Bool.Decides.{nat_tests}
 use Rattle.std.proofs.lemmas.Option.{none-some, slice_get_past}
 use Rattle.std.specs.Option.{option_map}
-use Rattle.nv_core.specs.Front.{IsBeside, Side}
+use Rattle.nv_core.specs.Front.{IsBeside}
 use Rattle.nv_core.specs.Jobs.{holder_in, job_in, job_with}
 use Rattle.nv_core.specs.Reaping.{answer_of, is_new, names_command, next_completion, waits_in}
 use Rattle.nv_core.specs.Submit.{IsOfTag}
 use Rattle.nv_core.specs.declared.holding.Holder.{Holder}
 use Rattle.nv_host.proofs.Dues.{unplaced-due}
 use Rattle.nv_host.specs.Passes.{IsOwn, NonePosts, NoneTakes, NoneWaits, NoneWaitsAt}
-use Rattle.nv_host.specs.Served.{IsAccepted, Served, is_offered}
-use Rattle.nv_host.specs.Work.{IsDueIn, IsIn, NotDue, Rests, Scene, Waits, guest_served}
+use Rattle.nv_host.specs.Served.{IsAccepted, is_offered}
+use Rattle.nv_host.specs.Work.{IsIn, NotDue, Rests, Scene, Waits}
 use Rattle.nv_host.specs.declared.worked.Scope.TheVariants as scope
-use Rattle.nv_laws_sound.proofs.Lists.{slice_get-below, some-same}
+use Rattle.nv_laws_sound.proofs.Lists.{some-same}
 use Rattle.nv_laws_sound.specs.Mediators.{IsMediators}
-use Rattle.nv_laws_sound.specs.Unplaced.{unplaced, unplaced_lane}
 use Rattle.nv_mediator.specs.Hosted.{limit_of}
 use Rattle.nv_model.specs.Controller.{front}
 use Rattle.nv_model.specs.declared.reply.Reply.{Reply}

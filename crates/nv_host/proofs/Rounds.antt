@@ -1,5 +1,5 @@
 -- Passes one after another: over many parts, and over two.
-use Rattle.std.proofs.Common.{◌≡◌, refl, sym, subst, ap, ◌∙◌, ℕ, ◌+◌, ◌-◌, ◌^◌, ◌<◌, ◌≤◌, arith, below_more}
+use Rattle.std.proofs.Common.{◌≡◌, refl, sym, subst, ℕ, ◌+◌, ◌-◌, ◌^◌, ◌<◌, ◌≤◌, arith, below_more}
 use Rattle.nv_host.proofs.Works.{ended-after, ended-enough, ended-few, ended-so, leads_more, leads_none, leads_zero}
 use Rattle.nv_host.specs.Passes.{IsPass}
 use Rattle.nv_host.specs.Work.{HasEnded, IsWorked, Leads, Rests, Scene}

@@ -1,11 +1,11 @@
 -- Events that work makes in a row, and how a call ends after them.
-use Rattle.std.proofs.Common.{◌≡◌, refl, sym, subst, ap, ◌∙◌, ℕ, zero, suc, ◌+◌, ◌-◌, ◌<◌, ◌≤◌, Bool, true, false, arith}
-use Rattle.std.proofs.Common.{List, [], ◌∷◌, ◌++◌, length, length-append, slice_get, Option, Some, None}
+use Rattle.std.proofs.Common.{◌≡◌, refl, subst, ap, ◌∙◌, ℕ, ◌+◌, ◌-◌, ◌≤◌, arith}
+use Rattle.std.proofs.Common.{List, [], ◌∷◌, ◌++◌, length, length-append}
 use Rattle.nv_core.proofs.Sides.{own-side, own-world}
-use Rattle.nv_core.specs.Front.{IsBeside, Side}
+use Rattle.nv_core.specs.Front.{IsBeside}
 use Rattle.nv_host.specs.Passes.{MayGiveUp}
 use Rattle.nv_host.specs.Served.{IsNext, Served}
-use Rattle.nv_host.specs.Work.{AreMade, HasEnded, IsDue, IsIn, IsMade, IsStray, IsWork, Leads, LeadsUp, NotDue, Rests, Scene, scene}
+use Rattle.nv_host.specs.Work.{AreMade, HasEnded, IsDue, IsMade, IsWork, Leads, LeadsUp, NotDue, Rests, Scene, scene}
 use Rattle.nv_host.specs.declared.worked.Scope.{Scope}
 use Rattle.nv_host.specs.declared.worked.Scope.TheVariants as scope
 use Rattle.nv_host.specs.declared.worked.Why.{Why}

@@ -1,5 +1,5 @@
 -- What the calls below `HostMediator::work` say of each other (profile).
-use Rattle.std.specs.Prelude.{◌≡◌, ◌<◌, ℕ, slice_get, IsSome, Option, Some, None}
+use Rattle.std.specs.Prelude.{◌≡◌, ℕ, slice_get, IsSome, Some}
 use Rattle.nv_core.specs.Jobs.{holder_in, job_in}
 use Rattle.nv_core.specs.Submit.{IsCurrentIn, IsLimit}
 use Rattle.nv_core.specs.declared.holding.Holder.{Holder}

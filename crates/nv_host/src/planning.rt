@@ -190,9 +190,11 @@ impl HostMediator {
         ensures is { slice_get self.now.setup.geometry.guests guest ≡ Some (record { memory_map = result.0.now; namespace = result.1.now; limit = result.2 }) }
         ensures limit { IsLimit result.2 }
     {
-        let (Some(map), Some(ns), Some(limit)) =
-            (self.map(guest), self.range(guest), self.limit(guest))
-        else {
+        let (Some(map), Some(ns), Some(limit)) = (
+            self.map(guest),
+            self.range(guest),
+            self.limit(guest),
+        ) else {
             unreachable!()
         };
         (map, ns, limit)

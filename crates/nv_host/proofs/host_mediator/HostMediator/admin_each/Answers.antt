@@ -1,4 +1,4 @@
-use Rattle.std.proofs.Common.{◌≡◌, ◌∙◌, ℕ, arith, refl, subst, sym}
+use Rattle.std.proofs.Common.{◌∙◌, arith, refl, subst, sym}
 use Rattle.nv_host.proofs.Rounds.{pass-far}
 use Rattle.nv_host.proofs.Works.{leads_more, leads_none, leads_zero}
 use Rattle.nv_host.specs.Work.{Leads, NotDue, Scene, scene}

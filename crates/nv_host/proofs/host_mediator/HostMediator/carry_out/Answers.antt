@@ -1,4 +1,4 @@
-use Rattle.std.proofs.Common.{◌≡◌, arith}
+use Rattle.std.proofs.Common.{arith}
 use Rattle.nv_host.proofs.Rounds.{pass-far}
 use Rattle.nv_host.proofs.Works.{leads_one}
 use Rattle.nv_host.specs.Work.{Scene, scene}

@@ -1,7 +1,6 @@
-use Rattle.std.proofs.Common.{◌≡◌, ◌∙◌, ap, refl, subst, sym, slice_get, Some}
+use Rattle.std.proofs.Common.{◌≡◌, ◌∙◌, ap, subst, sym, slice_get, Some}
 use Rattle.nv_core.specs.Jobs.{job_in}
 use Rattle.nv_host.proofs.Readings.{job-guest, own-may, plan-work, some-job, waiting-guest, waiting-works}
-use Rattle.nv_host.proofs.Rests.{no-job}
 use Rattle.nv_host.specs.Passes.{IsWaiting}
 use Rattle.nv_host.specs.Work.{Scene, scene}
 use Rattle.nv_plan.specs.declared.job.Job.{Job}
@@ -15,7 +14,7 @@ returns-in_default g c =
     let there = c.requires.there in
     let some = some-job (job_in c.args.lane c.args.tag (tag_in (slice_get c.args.self.now.side.lanes c.args.lane) c.args.tag)) c.in_default.ensures.err in
     let its : slice_get c.args.self.now.setup.geometry.guests some.0.guest ≡ Some there.0 =
-        ap (slice_get c.args.self.now.setup.geometry.guests) (job-guest a c.args.guest c.args.lane c.args.tag some.0 c.requires.own some.1) ∙ there.1 in
+    ap (slice_get c.args.self.now.setup.geometry.guests) (job-guest a c.args.guest c.args.lane c.args.tag some.0 c.requires.own some.1) ∙ there.1 in
     waiting-works c.args.guest a some.0 there.0 (waiting-guest a c.args.guest c.args.lane c.args.tag some.0 there.0 c.requires.own some.1 its)
 
 pub returns-in-Need : goal.returns-in-Need
@@ -24,7 +23,7 @@ returns-in-Need g c =
     let h = c.requires.there in
     let there : job_in c.args.lane c.args.tag (tag_in (slice_get c.args.self.now.side.lanes c.args.lane) c.args.tag) ≡ Some c.in-Some.job = sym c.in-Ok.ensures.ok ∙ c.in-Some.is in
     let its : slice_get c.args.self.now.setup.geometry.guests c.in-Some.job.guest ≡ Some h.0 =
-        ap (slice_get c.args.self.now.setup.geometry.guests) (job-guest a c.args.guest c.args.lane c.args.tag c.in-Some.job c.requires.own there) ∙ h.1 in
+    ap (slice_get c.args.self.now.setup.geometry.guests) (job-guest a c.args.guest c.args.lane c.args.tag c.in-Some.job c.requires.own there) ∙ h.1 in
     subst (λ (j : Job). (x : Guest) × IsWaiting c.args.guest a j x) (sym c.in-Need.ensures.0)
     (h.0, waiting-guest a c.args.guest c.args.lane c.args.tag c.in-Some.job h.0 c.requires.own there its)
 

@@ -1,6 +1,6 @@
-use Rattle.std.proofs.Common.{◌≡◌, refl}
+use Rattle.std.proofs.Common.{refl}
 use Rattle.nv_host.proofs.Rests.{not-told, told}
-use Rattle.nv_host.proofs.Works.{leads_none, leads_one}
+use Rattle.nv_host.proofs.Works.{leads_one}
 use Rattle.nv_host.specs.Work.{Scene, scene}
 use Rattle.nv_host.specs.declared.worked.Scope.TheVariants as scope
 use Rattle.nv_world_model.specs.declared.event.Event.TheVariants as event
@@ -13,7 +13,8 @@ returns-then-due-clause-yes g c = λ so.
     (record { own = refl; due_now = told a (event.Admin c.args.guest) c.due.result c.if-due.true (λ w on. c.due.ensures.worlds w on refl) }) c.admin-done.ensures.done
 
 pub returns-clause-no : goal.returns-clause-no
-returns-clause-no g c = λ isnt.
-    (refl,
-    let a : Scene = scene c.args.self.now (g.C.MemoryCell.bytes c.args.memory.now) in
-    (λ w on is. not-told a (event.Admin c.args.guest) c.due.result c.if-due.false (λ v there. c.due.ensures.worlds v there refl) w on is.0 is.1))
+returns-clause-no g c = λ isnt. (
+  refl,
+  let a : Scene = scene c.args.self.now (g.C.MemoryCell.bytes c.args.memory.now) in
+      (λ w on is. not-told a (event.Admin c.args.guest) c.due.result c.if-due.false (λ v there. c.due.ensures.worlds v there refl) w on is.0 is.1),
+)

@@ -1,6 +1,6 @@
-use Rattle.std.proofs.Common.{◌≡◌, ◌∙◌, sym, slice_get}
+use Rattle.std.proofs.Common.{◌∙◌, sym, slice_get}
 use Rattle.nv_host.proofs.Rests.{no-limit, no_guest-waits, not-own, some-limit, true-false}
-use Rattle.nv_host.specs.Work.{Scene, scene}
+use Rattle.nv_host.specs.Work.{scene}
 use Rattle.nv_host.proofs.host_mediator.HostMediator.next_of.Goals as goal
 
 pub returns-in-None : goal.returns-in-None

@@ -1,4 +1,4 @@
-use Rattle.std.proofs.Common.{◌≡◌, refl, arith}
+use Rattle.std.proofs.Common.{refl}
 use Rattle.nv_host.proofs.Rounds.{pass-none, pass-some}
 use Rattle.nv_host.proofs.Works.{leads_none}
 use Rattle.nv_host.specs.Passes.{NoneWaitsAt}

@@ -1,10 +1,9 @@
-use Rattle.std.proofs.Common.{◌≡◌, ◌∙◌, ◌-◌, ℕ, arith, inl, inr, refl}
+use Rattle.std.proofs.Common.{◌≡◌, ◌∙◌, ℕ, arith, refl}
 use Rattle.nv_host.proofs.Rounds.{after-fits, round-end, round-full, round-none, round-on, round-stop}
-use Rattle.nv_host.specs.Passes.{NoneTakes, NoneWaits, NoneWaitsAt}
-use Rattle.nv_host.specs.Work.{NotDue, Rests, Scene, scene}
+use Rattle.nv_host.specs.Passes.{NoneWaits}
+use Rattle.nv_host.specs.Work.{Scene, scene}
 use Rattle.nv_host.specs.declared.worked.Scope.TheVariants as scope
 use Rattle.nv_host.specs.declared.worked.Worked.{Worked}
-use Rattle.nv_world_model.specs.declared.event.Event.TheVariants as event
 use Rattle.nv_host.proofs.host_mediator.HostMediator.plan_lanes.Goals as goal
 
 pub loop-lane-init : goal.loop-lane-init

@@ -1,4 +1,4 @@
-use Rattle.std.proofs.Common.{◌≡◌, ◌∙◌, ◌-◌, ℕ, arith, inl, inr, refl}
+use Rattle.std.proofs.Common.{◌∙◌, ℕ, arith, inl, inr, refl}
 use Rattle.std.proofs.lemmas.Bool.{cases_lt}
 use Rattle.nv_host.proofs.Rests.{past-post}
 use Rattle.nv_host.proofs.Rounds.{round-count, round-end, round-full, round-none}

@@ -1,4 +1,4 @@
-use Rattle.std.proofs.Common.{◌≡◌, refl}
+use Rattle.std.proofs.Common.{refl}
 use Rattle.nv_host.proofs.Rests.{not-told, told}
 use Rattle.nv_host.proofs.Works.{leads_none, leads_one}
 use Rattle.nv_host.specs.Work.{Scene, scene}

@@ -1,10 +1,9 @@
-use Rattle.std.proofs.Common.{◌≡◌, ◌∙◌, ◌+◌, ◌-◌, ℕ, sym, subst, refl, arith}
+use Rattle.std.proofs.Common.{◌≡◌, ◌∙◌, ◌+◌, sym, subst, refl, arith}
 use Rattle.nv_host.proofs.Readings.{reading-may, reading-same}
 use Rattle.nv_host.proofs.Rounds.{after-fits, pass-after, pass-far}
 use Rattle.nv_host.proofs.Works.{leads_more, leads_none}
 use Rattle.nv_host.specs.Work.{Leads, Rests, Scene, scene}
 use Rattle.nv_host.specs.declared.worked.Scope.TheVariants as scope
-use Rattle.nv_host.specs.declared.worked.Worked.{Worked}
 use Rattle.nv_host.proofs.host_mediator.HostMediator.read_on.Goals as goal
 
 pub loop-done-init : goal.loop-done-init
@@ -71,9 +70,11 @@ returns-in-Full-clause-pass g c =
     let a : Scene = scene c.args.self.now (g.C.MemoryCell.bytes c.args.memory.now) in
     let b : Scene = scene c.loop-done.self (g.C.MemoryCell.bytes c.loop-done.memory) in
     let n : Scene = scene c.read_next.new.self (g.C.MemoryCell.bytes c.loop-done.memory) in
-    let same = c.in-Full.ensures.stride.0 in
-    (subst (λ (x : Scene). Leads (scope.Guest c.args.guest) c.loop-done.done a x) (sym same) c.loop-done.invariant.leads, c.loop-done-test.true,
-    λ rests. c.in-Full.ensures.stride.1 (subst (λ (x : Scene). Rests (scope.Guest c.args.guest) x) same rests))
+    let same = c.in-Full.ensures.stride.0 in (
+      subst (λ (x : Scene). Leads (scope.Guest c.args.guest) c.loop-done.done a x) (sym same) c.loop-done.invariant.leads,
+      c.loop-done-test.true,
+      λ rests. c.in-Full.ensures.stride.1 (subst (λ (x : Scene). Rests (scope.Guest c.args.guest) x) same rests),
+    )
 
 pub returns-in-Lost-clause-pass : goal.returns-in-Lost-clause-pass
 returns-in-Lost-clause-pass g c =

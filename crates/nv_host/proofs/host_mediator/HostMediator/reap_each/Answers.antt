@@ -1,5 +1,5 @@
-use Rattle.std.proofs.Common.{◌≡◌, ◌∙◌, ℕ, List, arith, ap, refl, subst, sym}
-use Rattle.nv_host.proofs.Rounds.{far, pass-far}
+use Rattle.std.proofs.Common.{◌∙◌, ℕ, List, arith, refl, subst, sym}
+use Rattle.nv_host.proofs.Rounds.{pass-far}
 use Rattle.nv_host.proofs.Works.{leads_more, leads_none, leads_zero}
 use Rattle.nv_host.specs.Served.{Served}
 use Rattle.nv_host.specs.Work.{IsStray, Leads, NotDue, Scene, scene}
@@ -38,9 +38,11 @@ pub returns-in-Err-clause-pass : goal.returns-in-Err-clause-pass
 returns-in-Err-clause-pass g c =
     let m : List ℕ = g.C.MemoryCell.bytes c.args.memory.now in
     let a : Scene = scene c.args.self.now (g.C.MemoryCell.bytes c.args.memory.now) in
-    let err = c.in-Err.ensures.stray in
-    (subst (λ (x : Served). Leads (scope.Lane c.args.lane) c.loop-done.done a (scene x m)) (sym err.0) c.loop-done.invariant.leads, c.loop-done-test.true,
-    subst (λ (x : Served). IsStray (scope.Lane c.args.lane) (scene x m) c.args.lane) (sym err.0) err.1)
+    let err = c.in-Err.ensures.stray in (
+      subst (λ (x : Served). Leads (scope.Lane c.args.lane) c.loop-done.done a (scene x m)) (sym err.0) c.loop-done.invariant.leads,
+      c.loop-done-test.true,
+      subst (λ (x : Served). IsStray (scope.Lane c.args.lane) (scene x m) c.args.lane) (sym err.0) err.1,
+    )
 
 pub returns-clause-pass : goal.returns-clause-pass
 returns-clause-pass g c =

@@ -1,11 +1,9 @@
-use Rattle.std.proofs.Common.{◌≡◌, ◌∙◌, ◌-◌, ℕ, length, arith, refl}
+use Rattle.std.proofs.Common.{◌≡◌, ℕ, arith}
 use Rattle.nv_host.proofs.Rounds.{after-fits, first-leads, two-both, two-first}
 use Rattle.std.proofs.Common.{◌<◌}
 use Rattle.nv_host.proofs.Rests.{all-rests}
-use Rattle.nv_host.specs.Work.{NotDue, Rests, Scene, scene}
+use Rattle.nv_host.specs.Work.{Rests, Scene, scene}
 use Rattle.nv_host.specs.declared.worked.Scope.TheVariants as scope
-use Rattle.nv_host.specs.declared.worked.Worked.{Worked}
-use Rattle.nv_world_model.specs.declared.event.Event.TheVariants as event
 use Rattle.nv_host.proofs.host_mediator.HostMediator.serve_all.Goals as goal
 
 pub returns-then-ends-clause-pass : goal.returns-then-ends-clause-pass
@@ -29,5 +27,5 @@ returns-clause-pass g c =
     let b : Scene = scene c.serve_lanes-lanes.new.self (g.C.MemoryCell.bytes c.serve_lanes-lanes.new.memory) in
     let n : Scene = scene c.serve_guests-guests.new.self (g.C.MemoryCell.bytes c.serve_guests-guests.new.memory) in
     let on = c.ends.ensures.no c.if-ends.false in
-    two-both scope.All _ ((lane : ℕ) → lane < c.args.self.now.setup.lanes → Rests (scope.Lane lane) a) c.args.most c.serve_lanes-lanes.result a b (c.serve_lanes-lanes.ensures.pass) (λ b. ((guest : ℕ) → guest < 16 → Rests (scope.Guest guest) b)) c.serve_guests-guests.result c.after.result n on.0 c.after.ensures c.serve_guests-guests.ensures.pass
+    two-both scope.All _ ((lane : ℕ) → lane < c.args.self.now.setup.lanes → Rests (scope.Lane lane) a) c.args.most c.serve_lanes-lanes.result a b (c.serve_lanes-lanes.ensures.pass) (λ (b : Scene). ((guest : ℕ) → guest < 16 → Rests (scope.Guest guest) b)) c.serve_guests-guests.result c.after.result n on.0 c.after.ensures c.serve_guests-guests.ensures.pass
     (λ lanes_rest guests_rest. all-rests a c.sizes.ensures.guests (λ lane below. lanes_rest lane (let many = c.sizes.ensures.lanes in omega (arith, many, below))) guests_rest)

@@ -1,4 +1,4 @@
-use Rattle.std.proofs.Common.{◌≡◌, ◌∙◌, sym, refl, slice_get}
+use Rattle.std.proofs.Common.{◌∙◌, sym, refl, slice_get}
 use Rattle.nv_host.proofs.Rests.{no-limit, no_guest-rests}
 use Rattle.nv_host.proofs.Rounds.{pass-none}
 use Rattle.nv_host.specs.Work.{Rests, Scene, scene}

@@ -1,10 +1,9 @@
-use Rattle.std.proofs.Common.{◌≡◌, ◌∙◌, ◌-◌, ℕ, length, arith, refl}
+use Rattle.std.proofs.Common.{◌≡◌}
 use Rattle.nv_host.proofs.Rounds.{after-fits, first-leads, two-both, two-first}
 use Rattle.nv_host.proofs.Rests.{lane-rests}
 use Rattle.nv_host.specs.Passes.{NonePosts}
-use Rattle.nv_host.specs.Work.{NotDue, Rests, Scene, scene}
+use Rattle.nv_host.specs.Work.{NotDue, Scene, scene}
 use Rattle.nv_host.specs.declared.worked.Scope.TheVariants as scope
-use Rattle.nv_host.specs.declared.worked.Worked.{Worked}
 use Rattle.nv_world_model.specs.declared.event.Event.TheVariants as event
 use Rattle.nv_host.proofs.host_mediator.HostMediator.serve_lane.Goals as goal
 
@@ -29,5 +28,5 @@ returns-clause-pass g c =
     let b : Scene = scene c.reap_each-read.new.self (g.C.MemoryCell.bytes c.args.memory.now) in
     let n : Scene = scene c.post_each-posted.new.self (g.C.MemoryCell.bytes c.post_each-posted.new.memory) in
     let on = c.ends.ensures.no c.if-ends.false in
-    two-both (scope.Lane c.args.lane) _ (NotDue a (event.Reap c.args.lane)) c.args.most c.reap_each-read.result a b (c.reap_each-read.ensures.pass) (λ b. NonePosts b c.args.lane) c.post_each-posted.result c.after.result n on.0 c.after.ensures c.post_each-posted.ensures.pass
+    two-both (scope.Lane c.args.lane) _ (NotDue a (event.Reap c.args.lane)) c.args.most c.reap_each-read.result a b (c.reap_each-read.ensures.pass) (λ (b : Scene). NonePosts b c.args.lane) c.post_each-posted.result c.after.result n on.0 c.after.ensures c.post_each-posted.ensures.pass
     (λ no_reap none_posts. lane-rests a c.args.lane no_reap none_posts)

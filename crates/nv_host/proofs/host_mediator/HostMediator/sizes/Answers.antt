@@ -1,4 +1,4 @@
-use Rattle.std.proofs.Common.{ℕ, ◌≤◌, length, subst}
+use Rattle.std.proofs.Common.{◌≤◌, length, subst}
 use Rattle.nv_host.proofs.Rests.{few-guests}
 use Rattle.nv_host.specs.Served.{Served}
 use Rattle.nv_host.proofs.host_mediator.HostMediator.sizes.Goals as goal

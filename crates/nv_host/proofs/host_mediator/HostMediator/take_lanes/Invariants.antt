@@ -1,6 +1,6 @@
 use Rattle.std.proofs.Common.{◌≡◌, ℕ, length}
 use Rattle.nv_host.proofs.Rounds.{IsRound}
-use Rattle.nv_host.specs.Passes.{NoneTakes, NoneWaits, NoneWaitsAt}
+use Rattle.nv_host.specs.Passes.{NoneTakes}
 use Rattle.nv_host.specs.Work.{Scene, scene}
 use Rattle.nv_host.specs.declared.worked.Scope.TheVariants as scope
 use Rattle.nv_host.proofs.host_mediator.HostMediator.take_lanes.Given as goal

@@ -1,6 +1,6 @@
-use Rattle.std.proofs.Common.{◌≡◌, ◌∙◌, ◌≤◌, ◌-◌, ℕ, arith, refl}
+use Rattle.std.proofs.Common.{◌≡◌, arith}
 use Rattle.nv_host.proofs.Rounds.{after-fits, pass-after, pass-far}
-use Rattle.nv_host.specs.Passes.{NoneTakes, NoneWaits}
+use Rattle.nv_host.specs.Passes.{NoneWaits}
 use Rattle.nv_host.specs.Work.{Scene, scene}
 use Rattle.nv_host.specs.declared.worked.Scope.TheVariants as scope
 use Rattle.nv_host.specs.declared.worked.Worked.{Worked}
@@ -20,7 +20,7 @@ returns-then-done-turn-clause-pass g c =
     let b : Scene = scene c.take_each-done.new.self (g.C.MemoryCell.bytes c.args.memory.now) in
     let few = c.take_each-done.ensures.few in
     let within = c.requires.within in
-    pass-far (scope.Guest c.args.guest) _ c.args.most c.take_each-done.result c.so_far-2.result a b c.so_far-2.ensures c.take_each-done.ensures.leads (omega (arith, few, within)) c.take_each-done.ensures.none
+    pass-far (scope.Guest c.args.guest) _ c.args.most c.take_each-done.result c.so_far-then-done-turn.result a b c.so_far-then-done-turn.ensures c.take_each-done.ensures.leads (omega (arith, few, within)) c.take_each-done.ensures.none
 
 pub after-requires : goal.after-requires
 after-requires g c =

@@ -1,7 +1,7 @@
-use Rattle.std.proofs.Common.{◌≡◌, ◌∙◌, ℕ, List, arith, ap, refl, subst, sym}
+use Rattle.std.proofs.Common.{◌∙◌, ℕ, List, arith, refl, subst, sym}
 use Rattle.nv_host.proofs.Works.{leads_more, leads_none, leads_zero}
 use Rattle.nv_host.specs.Served.{Served}
-use Rattle.nv_host.specs.Work.{IsStray, Leads, NotDue, Scene, scene}
+use Rattle.nv_host.specs.Work.{Leads, NotDue, Scene, scene}
 use Rattle.nv_host.specs.declared.worked.Scope.TheVariants as scope
 use Rattle.nv_world_model.specs.declared.event.Event.TheVariants as event
 use Rattle.nv_host.proofs.host_mediator.HostMediator.take_queue.Goals as goal

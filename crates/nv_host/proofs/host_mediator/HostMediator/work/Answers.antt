@@ -1,4 +1,4 @@
-use Rattle.std.proofs.Common.{◌≡◌, ◌∙◌, ◌+◌, ◌<◌, ℕ, arith, ap, refl}
+use Rattle.std.proofs.Common.{◌≡◌, ◌∙◌, ◌+◌, ◌<◌, arith, ap, refl}
 use Rattle.nv_host.proofs.Rounds.{after-fits, worked-all, worked-end, worked-on}
 use Rattle.nv_host.proofs.Works.{ended-closed, leads_none}
 use Rattle.nv_host.specs.Work.{IsWorked, Rests, Scene, scene}
@@ -74,5 +74,5 @@ returns-clause-closed g c =
     let b : Scene = scene c.loop-done.self (g.C.MemoryCell.bytes c.loop-done.memory) in
     let v : Worked = c.so_far.result in
     let is : IsWorked c.args.scope c.args.most v a b =
-        worked-all c.args.scope c.args.most c.loop-done.done v a b c.so_far.ensures c.loop-done.invariant.leads c.loop-done.invariant.few c.loop-done-test.false in
+    worked-all c.args.scope c.args.most c.loop-done.done v a b c.so_far.ensures c.loop-done.invariant.leads c.loop-done.invariant.few c.loop-done-test.false in
     ended-closed c.args.scope c.args.most v.done (v.done < c.args.most → Rests c.args.scope b) v.why a b is
