@@ -4,7 +4,7 @@ ghost use Rattle.std.specs.Prelude.{◌≡◌, IfSome, length};
 
 use nv_bringup::{BLOCKS, BRING_UP, Span, act_of, guest_at, setup_of};
 use nv_entry::{Cqe, Sqe, StatusCode};
-use nv_host::{Closed, HostMediator, Stray};
+use nv_host::{Closed, HostMediator, Scope, Stray, Worked};
 use nv_model::{Act, Reply};
 use nv_plan::{Planned, make_plan};
 use nv_world_model::Event;
@@ -135,6 +135,12 @@ impl Bench {
     /// The command of a tag of lane 0 is completed.
     pub fn post(&mut self, tag: u8) -> Reply {
         self.mediator.post(0, tag, &mut self.memory)
+    }
+
+    /// What is due of a scope is carried out.
+    pub fn work(&mut self, scope: Scope, most: u64) -> Worked {
+        self.mediator
+            .work(self.alloc, scope, most, &mut self.memory)
     }
 
     /// Whether an event is due.

@@ -8,7 +8,7 @@ use crate::plans::Plans;
 use crate::watched::Watched;
 use nv_bringup::Random;
 use nv_device::Device;
-use nv_host::{HostMediator, Setup, Stray};
+use nv_host::{HostMediator, Scope, Setup, Stray, Worked};
 use nv_mem::{Bytes, Host, MemoryCell, NoMemory};
 use nv_model::limits::RING_SLOTS;
 use nv_model::{Act, Reply};
@@ -117,6 +117,21 @@ impl Desk {
             Event::Post(lane, tag) => Ok(self.post(*lane, *tag)),
             _ => self.drives(alloc, event),
         }
+    }
+
+    /// What is due of a scope is carried out by the mediator, and the drive's doorbells are rung.
+    pub fn work(&mut self, alloc: Global, scope: Scope, most: u64) -> Worked {
+        self.begin();
+        let worked = self.works(alloc, scope, most);
+        for lane in 0..self.device.lanes() {
+            self.ring(lane);
+        }
+        worked
+    }
+
+    // The same, and no doorbell is rung.
+    fn works(&mut self, alloc: Global, scope: Scope, most: u64) -> Worked {
+        self.mediator.work(alloc, scope, most, &mut self.memory)
     }
 
     /// Whether an event would be done now, as far as one may be due.

@@ -7,6 +7,8 @@
 //! memory and disk. [`failing`] shows that a difference is found. In [`earlier`] the host starts anew, with a drive that has data and a memory full of
 //! other bytes.
 //!
+//! In [`working`] what is due is carried out by `HostMediator::work` alone, beside a drive.
+//!
 //! The memory ([`watched::Watched`]) marks each byte that a call reads or writes. So it shows whether a call reads a byte twice, or reads what it wrote
 //! itself.
 //!
@@ -49,3 +51,5 @@ mod two_guests;
 mod watched;
 #[cfg(test)]
 mod wild;
+#[cfg(test)]
+mod working;

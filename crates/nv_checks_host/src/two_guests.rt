@@ -87,9 +87,14 @@ pub fn setup(alloc: Global, lanes: u8) -> Option<Setup> {
     })
 }
 
+/// A desk with so many lanes, at its start; none where memory was refused.
+pub fn desk(alloc: Global, lanes: u8) -> Option<Desk> {
+    Desk::new(alloc, setup(alloc, lanes)?)
+}
+
 /// A mediator with so many lanes, at its start, and a desk of its set-up; none where memory was refused.
 pub fn opened(alloc: Global, lanes: u8) -> Option<Pair> {
     let mediator = Mediator::new(alloc, setup(alloc, lanes)?).ok()?;
-    let desk = Desk::new(alloc, setup(alloc, lanes)?)?;
+    let desk = desk(alloc, lanes)?;
     Some(Pair::of(alloc, mediator, desk))
 }

@@ -15,7 +15,7 @@ use Rattle.nv_world_model.specs.declared.event.Event.TheVariants as event
 use Rattle.nv_world_model.specs.declared.logged.Logged.{Logged}
 
 -- worlds that are the same but for places are told alike
-unplaced-due : (geometry : Geometry) (e : Event) → IsMediators e → (v w : World) → unplaced v ≡ unplaced w → due geometry e v ≡ due geometry e w
+pub unplaced-due : (geometry : Geometry) (e : Event) → IsMediators e → (v w : World) → unplaced v ≡ unplaced w → due geometry e v ≡ due geometry e w
 unfolding due
 unplaced-due geometry e mine v w same =
     ap (λ (a : After). is_due_kind e && is_done a.reply)

@@ -6,10 +6,15 @@ pub mod Failed
 pub mod Fails
 pub mod Failures
 pub mod GivenUp
+pub mod ListJobs
 pub mod Over
+pub mod Readings
 pub mod Reaps
+pub mod Rests
 pub mod Ring
+pub mod Rounds
 pub mod Runs
 pub mod Starts
 pub mod Cleared
 pub mod TakenAll
+pub mod Works

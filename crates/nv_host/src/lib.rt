@@ -11,6 +11,8 @@
 //! [`HostMediator::head`], [`HostMediator::submission_ring`] and [`HostMediator::completion_ring`] what the host needs for the drive's queues and
 //! doorbells. [`HostMediator::pending`] has the interrupt vectors that the host is to raise in a guest.
 //!
+//! [`HostMediator::work`] carries out all that is due, of a guest, of a lane or of all ([`Scope`]), by these calls one after another (`specs/Work`).
+//!
 //! What a call comes to is said by logs (`specs/Served`): of each log that leads to the mediator and the memory as they are, the call is the next
 //! event. Such a log has the calls with their replies, and what the drive did between them. Nobody has to keep one. [`HostMediator::promise`] does
 //! nothing: its contract says that every log that leads there keeps the whole promise.
@@ -31,9 +33,14 @@ mod failing;
 mod guests;
 mod host_mediator;
 mod interrupts;
+mod planning;
 mod rings;
+mod taking;
+mod worked;
+mod working;
 
 pub use closing::Closed;
 pub use host_mediator::HostMediator;
 pub use nv_core::{Holder, Stray};
 pub use nv_mediator::{Extent, GuestSetup, Refusal, Setup};
+pub use worked::{Scope, Why, Worked};

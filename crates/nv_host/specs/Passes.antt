@@ -1,0 +1,83 @@
+-- What the calls below `HostMediator::work` say of each other (profile).
+use Rattle.std.specs.Prelude.{◌≡◌, ℕ, slice_get, IsSome, Some}
+use Rattle.nv_core.specs.Jobs.{holder_in, job_in}
+use Rattle.nv_core.specs.Submit.{IsCurrentIn, IsLimit}
+use Rattle.nv_core.specs.declared.holding.Holder.{Holder}
+use Rattle.nv_host.specs.Work.{HasEnded, IsIn, IsWork, Leads, NotDue, Rests, Scene, Waits}
+use Rattle.nv_host.specs.declared.planning.Choice.{Choice}
+use Rattle.nv_host.specs.declared.planning.Choice.TheVariants as choice
+use Rattle.nv_host.specs.declared.planning.GrantCopy.{GrantCopy}
+use Rattle.nv_host.specs.declared.planning.Stride.{Stride}
+use Rattle.nv_host.specs.declared.planning.Stride.TheVariants as stride
+use Rattle.nv_host.specs.declared.worked.Scope.{Scope}
+use Rattle.nv_host.specs.declared.worked.Scope.TheVariants as scope
+use Rattle.nv_host.specs.declared.worked.Worked.{Worked}
+use Rattle.nv_model.specs.Transcript.{Settled}
+use Rattle.nv_plan.specs.Fed.{UnderWay}
+use Rattle.nv_plan.specs.Made.{outcome_of}
+use Rattle.nv_plan.specs.declared.job.Job.{Job}
+use Rattle.nv_world_model.specs.Geometry.{Guest}
+use Rattle.nv_world_model.specs.Plan.{Plan}
+use Rattle.nv_world_model.specs.World.{tag_in}
+use Rattle.nv_world_model.specs.declared.event.Event.TheVariants as event
+
+-- one pass over a part of the work: where it made no event, and nothing stopped it, this much is known of what it found
+abbrev pub IsPass : Scope → (nothing : Type 0) → (most : ℕ) → Worked → (old new : Scene) → Type 0
+IsPass sc nothing most worked old new = HasEnded sc most worked.done (worked.done ≡ 0 → nothing) worked.why old new
+
+-- no command of a guest's waits for its plan by that tag, by any tag of a lane, and by any at all below a lane
+abbrev pub NoneWaitsAt : Scene → (guest lane tag : ℕ) → Type 0
+NoneWaitsAt s guest lane tag = (job : Job) (given : Guest) → Waits s lane tag job given → job.guest ≡ guest → ⊥
+
+abbrev pub NoneWaits : Scene → (guest lane : ℕ) → Type 0
+NoneWaits s guest lane = (tag : ℕ) → NoneWaitsAt s guest lane tag
+
+-- none of its commands may be taken on that lane
+abbrev pub NoneTakes : Scene → (guest lane : ℕ) → Type 0
+NoneTakes s guest lane = (queue : ℕ) → NotDue s (event.Take guest queue lane)
+
+-- no command of a lane may be posted to its guest
+abbrev pub NonePosts : Scene → (lane : ℕ) → Type 0
+NonePosts s lane = (tag : ℕ) → NotDue s (event.Post lane tag)
+
+-- that guest's command goes by that tag
+abbrev pub IsOwn : Scene → (guest lane tag : ℕ) → Type 0
+IsOwn s guest lane tag = holder_in (tag_in (slice_get s.served.side.lanes lane) tag) ≡ Some (let h : Holder = record { guest = guest; leader = tag } in h)
+
+-- a command of a guest's waits for its plan, and the guest was given this
+pub record IsWaiting (guest : ℕ) (s : Scene) (job : Job) (given : Guest) : Type 0 where
+  pub waits : Waits s job.lane job.tag job given
+  pub own : IsIn (scope.Guest guest) s (event.GiveUp job.lane job.tag)
+
+-- a command of a guest's may be given up
+pub record MayGiveUp (guest : ℕ) (s : Scene) (lane tag : ℕ) : Type 0 where
+  pub own : IsIn (scope.Guest guest) s (event.GiveUp lane tag)
+  pub waits : IsSome (job_in lane tag (tag_in (slice_get s.served.side.lanes lane) tag))
+
+-- a copy of what a guest was given, with a limit that may be
+pub record IsGiven (s : Scene) (guest : ℕ) (copy : GrantCopy) : Type 0 where
+  pub is : slice_get s.served.setup.geometry.guests guest ≡ Some (record { memory_map = copy.map; namespace = copy.ns; limit = copy.limit })
+  pub limit : IsLimit copy.limit
+
+-- what comes next of a guest's command that goes by a tag
+abbrev pub IsChoice : Scene → (guest lane tag : ℕ) → Choice → Type 0
+IsChoice s guest lane tag (choice.Submit plan) =
+    IsCurrentIn s.served.setup.geometry s.served.side.lanes plan × IsWork (scope.Guest guest) s (event.Submit plan.job.lane plan.job.tag)
+IsChoice s guest lane tag (choice.Read job) = (given : Guest) × IsWaiting guest s job given
+IsChoice s guest lane tag choice.GiveUp = MayGiveUp guest s lane tag
+IsChoice s guest lane tag choice.Nothing = NoneWaitsAt s guest lane tag
+IsChoice s guest lane tag choice.Starved = Rests (scope.Guest guest) s → ⊥
+
+-- a plan under way is that of such a command
+abbrev pub IsReading : (guest : ℕ) → Scene → UnderWay → Type 0
+IsReading guest s p = IsWaiting guest s p.job p.given
+
+-- one more read was made for a plan under way, which has it; or its plan can be made, or there was no memory, and nothing has changed; or one
+-- event was made that the plan has not got
+abbrev pub IsStride : (guest : ℕ) → (old : Scene) → (before : UnderWay) → Stride → (new : Scene) → (after : UnderWay) → Type 0
+IsStride guest old before stride.Read new after = Leads (scope.Guest guest) 1 old new × IsReading guest new after
+IsStride guest old before stride.Planned new after =
+    (new ≡ old) × (after ≡ before) × ((plan : Plan) × (outcome_of before.given before.job ≡ Settled plan))
+IsStride guest old before stride.Starved new after = (new ≡ old) × (after ≡ before)
+IsStride guest old before stride.Full new after = (new ≡ old) × (Rests (scope.Guest guest) old → ⊥)
+IsStride guest old before stride.Lost new after = Leads (scope.Guest guest) 1 old new

@@ -1,0 +1,355 @@
+//! What is due, carried out.
+
+ghost use Rattle.std.specs.Prelude.{◌≡◌, ◌<◌, ◌≤◌, ℕ, IfOk, IsTrue, OnErr, Some, false, length, slice_get, true};
+ghost use Rattle.nv_host.specs.Passes.{IsPass, NonePosts};
+ghost use Rattle.nv_host.specs.Work.{IsStray, IsWorked, Leads, NotDue, Rests, scene};
+ghost use Rattle.nv_world_model.specs.Area.{tag_count};
+ghost use Rattle.nv_world_model.specs.World.{Lane};
+
+use crate::host_mediator::HostMediator;
+use crate::worked::{Scope, Why, Worked};
+use nv_core::Stray;
+use nv_mem::MemoryCell;
+use nv_model::Reply;
+use nv_model::limits::{MOST_GUESTS, TAGS};
+use nv_world_model::Event;
+use std::alloc::Global;
+
+/// How many events a guest gets in a row, at most, while lanes and other guests wait; but a command's lists are read up to their end.
+const TURN: u64 = 64;
+
+impl HostMediator {
+    /// Carries out what is due of a scope, `most` events at most.
+    ///
+    /// Of a lane the drive's completions are read, and the commands that have ended are completed for their guests. Of a guest its admin commands are
+    /// carried out; its commands that wait are planned and handed on, and others are taken. A command for whose plan there is no memory is given up.
+    ///
+    /// It goes round until nothing is left: all lanes, and then all guests, each of which gets 64 events at most before the next one's turn. The lists of
+    /// a command that was begun are read up to their end, as far as `most` allows, since a plan that is cut off begins again with what was read.
+    ///
+    /// A completion that names no command ends the call ([`Why::Stray`]): the host stops the drive, and closes the lane by [`HostMediator::close`].
+    /// Nothing is taken for a lane that was closed. The host then writes its doorbells, from [`HostMediator::tail`] and [`HostMediator::head`].
+    ///
+    /// Nothing is kept from call to call. Each begins with the first lane, so whoever asks for few events at a time asks by the scopes in turn.
+    pub fn work<C: MemoryCell>(
+        &mut self,
+        alloc: Global,
+        scope: Scope,
+        most: u64,
+        memory: &mut [C],
+    ) -> Worked
+        requires { length (C.bytes memory.old) ≡ self.old.setup.host_bytes }
+        ensures worked { IsWorked scope most result (scene self.old (C.bytes memory.old)) (scene self.new (C.bytes memory.new)) }
+        ensures setup { self.new.setup ≡ self.old.setup }
+        ensures closed { self.new.closed ≡ self.old.closed }
+        ensures len { length (C.bytes memory.new) ≡ length (C.bytes memory.old) }
+    {
+        let mut done: u64 = 0;
+        while done < most {
+            let pass = self.go_round(alloc, scope, most - done, memory);
+            let last = pass.is_last();
+            let whole = Worked::after(done, pass);
+            if last {
+                return whole;
+            }
+            done = whole.done;
+        }
+        Worked::so_far(done)
+    }
+
+    // One round of a scope.
+    fn go_round<C: MemoryCell>(
+        &mut self,
+        alloc: Global,
+        scope: Scope,
+        most: u64,
+        memory: &mut [C],
+    ) -> Worked
+        requires some { 0 < most }
+        requires lent { length (C.bytes memory.old) ≡ self.old.setup.host_bytes }
+        ensures pass { let old = scene self.old (C.bytes memory.old) in
+            IsPass scope (Rests scope old) most result old (scene self.new (C.bytes memory.new)) }
+        ensures setup { self.new.setup ≡ self.old.setup }
+        ensures len { length (C.bytes memory.new) ≡ length (C.bytes memory.old) }
+    {
+        match scope {
+            Scope::Guest(guest) => self.serve_guest(alloc, guest, most, most, memory),
+            Scope::Lane(lane) => self.serve_lane(lane, most, memory),
+            Scope::All => self.serve_all(alloc, most, memory),
+        }
+    }
+
+    // One round of all: the lanes, and then the guests.
+    fn serve_all<C: MemoryCell>(&mut self, alloc: Global, most: u64, memory: &mut [C]) -> Worked
+        requires some { 0 < most }
+        requires lent { length (C.bytes memory.old) ≡ self.old.setup.host_bytes }
+        ensures pass { let old = scene self.old (C.bytes memory.old) in
+            IsPass Scope.All (Rests Scope.All old) most result old (scene self.new (C.bytes memory.new)) }
+        ensures setup { self.new.setup ≡ self.old.setup }
+        ensures len { length (C.bytes memory.new) ≡ length (C.bytes memory.old) }
+    {
+        self.sizes();
+        let lanes = self.serve_lanes(most, memory);
+        if lanes.ends(most) {
+            return lanes;
+        }
+        let done = lanes.done;
+        let guests = self.serve_guests(alloc, most - done, memory);
+        Worked::after(done, guests)
+    }
+
+    // One round of all lanes.
+    fn serve_lanes<C: MemoryCell>(&mut self, most: u64, memory: &mut [C]) -> Worked
+        requires some { 0 < most }
+        requires lent { length (C.bytes memory.old) ≡ self.old.setup.host_bytes }
+        ensures pass { let old = scene self.old (C.bytes memory.old) in
+            IsPass Scope.All ((lane : ℕ) → lane < self.old.setup.lanes → Rests (Scope.Lane lane) old) most result old
+            (scene self.new (C.bytes memory.new)) }
+        ensures setup { self.new.setup ≡ self.old.setup }
+        ensures len { length (C.bytes memory.new) ≡ length (C.bytes memory.old) }
+    {
+        let mut done: u64 = 0;
+        for lane in 0..self.lanes() {
+            if done >= most {
+                return Worked::so_far(done);
+            }
+            let pass = self.serve_lane(lane, most - done, memory);
+            let stopped = pass.has_stopped();
+            let whole = Worked::after(done, pass);
+            if stopped {
+                return whole;
+            }
+            done = whole.done;
+        }
+        Worked::so_far(done)
+    }
+
+    // A turn of each guest.
+    fn serve_guests<C: MemoryCell>(&mut self, alloc: Global, most: u64, memory: &mut [C]) -> Worked
+        requires some { 0 < most }
+        requires lent { length (C.bytes memory.old) ≡ self.old.setup.host_bytes }
+        ensures pass { let old = scene self.old (C.bytes memory.old) in
+            IsPass Scope.All ((guest : ℕ) → guest < 16 → Rests (Scope.Guest guest) old) most result old (scene self.new (C.bytes memory.new)) }
+        ensures setup { self.new.setup ≡ self.old.setup }
+        ensures len { length (C.bytes memory.new) ≡ length (C.bytes memory.old) }
+    {
+        let mut done: u64 = 0;
+        for guest in 0..MOST_GUESTS {
+            if done >= most {
+                return Worked::so_far(done);
+            }
+            let left = most - done;
+            let pass = self.serve_guest(alloc, guest, left.min(TURN), left, memory);
+            let stopped = pass.has_stopped();
+            let whole = Worked::after(done, pass);
+            if stopped {
+                return whole;
+            }
+            done = whole.done;
+        }
+        Worked::so_far(done)
+    }
+
+    // A lane's round: the drive's completions, and then those of its commands for their guests.
+    fn serve_lane<C: MemoryCell>(&mut self, lane: u8, most: u64, memory: &mut [C]) -> Worked
+        requires some { 0 < most }
+        requires lent { length (C.bytes memory.old) ≡ self.old.setup.host_bytes }
+        ensures pass { let old = scene self.old (C.bytes memory.old) in
+            IsPass (Scope.Lane lane) (Rests (Scope.Lane lane) old) most result old (scene self.new (C.bytes memory.new)) }
+        ensures setup { self.new.setup ≡ self.old.setup }
+        ensures len { length (C.bytes memory.new) ≡ length (C.bytes memory.old) }
+    {
+        let read = self.reap_each(lane, most, memory);
+        if read.ends(most) {
+            return read;
+        }
+        let done = read.done;
+        let posted = self.post_each(lane, most - done, memory);
+        Worked::after(done, posted)
+    }
+
+    // Reads the completions of a lane.
+    fn reap_each<C: MemoryCell>(&mut self, lane: u8, most: u64, memory: &[C]) -> Worked
+        requires some { 0 < most }
+        requires lent { length (C.bytes memory.now) ≡ self.old.setup.host_bytes }
+        ensures pass { let old = scene self.old (C.bytes memory.now) in
+            IsPass (Scope.Lane lane) (NotDue old (Event.Reap lane)) most result old (scene self.new (C.bytes memory.now)) }
+        ensures setup { self.new.setup ≡ self.old.setup }
+    {
+        let mut done: u64 = 0;
+        while done < most {
+            match self.has_read(lane, memory) {
+                Ok(read) => {
+                    if read {
+                        done += 1;
+                    } else {
+                        return Worked::so_far(done);
+                    }
+                }
+                Err(Stray) => {
+                    return Worked {
+                        done,
+                        why: Why::Stray(lane),
+                    };
+                }
+            }
+        }
+        Worked::so_far(done)
+    }
+
+    // Reads the next completion of a lane; whether there was one.
+    fn has_read<C: MemoryCell>(&mut self, lane: u8, memory: &[C]) -> Result<bool, Stray>
+        requires { length (C.bytes memory.now) ≡ self.old.setup.host_bytes }
+        ensures yes { IfOk result (λ is. is ≡ true → Leads (Scope.Lane lane) 1 (scene self.old (C.bytes memory.now)) (scene self.new (C.bytes memory.now))) }
+        ensures no { IfOk result (λ is. is ≡ false → (self.new ≡ self.old) × NotDue (scene self.old (C.bytes memory.now)) (Event.Reap lane)) }
+        ensures stray { OnErr result ((self.new ≡ self.old) × IsStray (Scope.Lane lane) (scene self.old (C.bytes memory.now)) lane) }
+        ensures setup { self.new.setup ≡ self.old.setup }
+    {
+        match self.reap(lane, memory) {
+            Ok(reply) => Ok(is_done(&reply)),
+            Err(Stray) => Err(Stray),
+        }
+    }
+
+    // Completes the commands of a lane that have ended.
+    fn post_each<C: MemoryCell>(&mut self, lane: u8, most: u64, memory: &mut [C]) -> Worked
+        requires some { 0 < most }
+        requires lent { length (C.bytes memory.old) ≡ self.old.setup.host_bytes }
+        ensures pass { let old = scene self.old (C.bytes memory.old) in
+            IsPass (Scope.Lane lane) (NonePosts old lane) most result old (scene self.new (C.bytes memory.new)) }
+        ensures setup { self.new.setup ≡ self.old.setup }
+        ensures len { length (C.bytes memory.new) ≡ length (C.bytes memory.old) }
+    {
+        self.sizes();
+        let mut done: u64 = 0;
+        for tag in 0..TAGS {
+            if done >= most {
+                return Worked::so_far(done);
+            }
+            let more = self.post_one(lane, tag, memory);
+            done += more;
+        }
+        Worked::so_far(done)
+    }
+
+    // Completes the command that goes by a tag where it has ended; how many events that were, one or none.
+    fn post_one<C: MemoryCell>(&mut self, lane: u8, tag: u8, memory: &mut [C]) -> u64
+        requires { length (C.bytes memory.old) ≡ self.old.setup.host_bytes }
+        ensures leads { Leads (Scope.Lane lane) result (scene self.old (C.bytes memory.old)) (scene self.new (C.bytes memory.new)) }
+        ensures few { result ≤ 1 }
+        ensures none { result ≡ 0 → NotDue (scene self.old (C.bytes memory.old)) (Event.Post lane tag) }
+        ensures setup { self.new.setup ≡ self.old.setup }
+        ensures len { length (C.bytes memory.new) ≡ length (C.bytes memory.old) }
+    {
+        if self.due(&Event::Post(lane, tag), memory) {
+            let _done = self.post(lane, tag, memory);
+            return 1;
+        }
+        0
+    }
+
+    // A guest's round: its admin commands, its commands that wait for their plans, and those that may be taken. It has `turn` events, and the lists of its
+    // last command have as many more as `most` allows.
+    fn serve_guest<C: MemoryCell>(
+        &mut self,
+        alloc: Global,
+        guest: u8,
+        turn: u64,
+        most: u64,
+        memory: &mut [C],
+    ) -> Worked
+        requires some { 0 < turn }
+        requires within { turn ≤ most }
+        requires lent { length (C.bytes memory.old) ≡ self.old.setup.host_bytes }
+        ensures pass { let old = scene self.old (C.bytes memory.old) in
+            IsPass (Scope.Guest guest) (Rests (Scope.Guest guest) old) most result old (scene self.new (C.bytes memory.new)) }
+        ensures setup { self.new.setup ≡ self.old.setup }
+        ensures len { length (C.bytes memory.new) ≡ length (C.bytes memory.old) }
+    {
+        match self.limit(guest) {
+            None => Worked::so_far(0),
+            Some(_limit) => self.serve_there(alloc, guest, turn, most, memory),
+        }
+    }
+
+    // The same of a guest that is there.
+    fn serve_there<C: MemoryCell>(
+        &mut self,
+        alloc: Global,
+        guest: u8,
+        turn: u64,
+        most: u64,
+        memory: &mut [C],
+    ) -> Worked
+        requires some { 0 < turn }
+        requires within { turn ≤ most }
+        requires lent { length (C.bytes memory.old) ≡ self.old.setup.host_bytes }
+        ensures pass { let old = scene self.old (C.bytes memory.old) in
+            IsPass (Scope.Guest guest) (Rests (Scope.Guest guest) old) most result old (scene self.new (C.bytes memory.new)) }
+        ensures setup { self.new.setup ≡ self.old.setup }
+        ensures len { length (C.bytes memory.new) ≡ length (C.bytes memory.old) }
+    {
+        self.sizes();
+        let first = self.admin_each(guest, turn, memory);
+        if first.ends(turn) {
+            return first;
+        }
+        let done = first.done;
+        let rest = self.serve_commands(alloc, guest, turn - done, most - done, memory);
+        Worked::after(done, rest)
+    }
+
+    // Carries out the guest's admin commands.
+    fn admin_each<C: MemoryCell>(&mut self, guest: u8, most: u64, memory: &mut [C]) -> Worked
+        requires some { 0 < most }
+        requires lent { length (C.bytes memory.old) ≡ self.old.setup.host_bytes }
+        ensures pass { let old = scene self.old (C.bytes memory.old) in
+            IsPass (Scope.Guest guest) (NotDue old (Event.Admin guest)) most result old (scene self.new (C.bytes memory.new)) }
+        ensures setup { self.new.setup ≡ self.old.setup }
+        ensures len { length (C.bytes memory.new) ≡ length (C.bytes memory.old) }
+    {
+        let mut done: u64 = 0;
+        while done < most {
+            let served = self.has_served(guest, memory);
+            if served {
+                done += 1;
+            } else {
+                return Worked::so_far(done);
+            }
+        }
+        Worked::so_far(done)
+    }
+
+    // Carries out one event of the guest's admin queue where there is one; whether there was.
+    fn has_served<C: MemoryCell>(&mut self, guest: u8, memory: &mut [C]) -> bool
+        requires { length (C.bytes memory.old) ≡ self.old.setup.host_bytes }
+        ensures yes { IsTrue result → Leads (Scope.Guest guest) 1 (scene self.old (C.bytes memory.old)) (scene self.new (C.bytes memory.new)) }
+        ensures no { result ≡ false → (scene self.new (C.bytes memory.new) ≡ scene self.old (C.bytes memory.old))
+            × NotDue (scene self.old (C.bytes memory.old)) (Event.Admin guest) }
+        ensures setup { self.new.setup ≡ self.old.setup }
+        ensures len { length (C.bytes memory.new) ≡ length (C.bytes memory.old) }
+    {
+        if self.due(&Event::Admin(guest), memory) {
+            let _done = self.admin(guest, memory);
+            return true;
+        }
+        false
+    }
+
+    // What is kept of how many lanes, guests and tags there are.
+    pub(crate) fn sizes(&self)
+        ensures lanes { length self.now.side.lanes ≡ self.now.setup.lanes }
+        ensures guests { length self.now.setup.geometry.guests ≤ 16 }
+        ensures tags { (lane : ℕ) (l : Lane) → slice_get self.now.side.lanes lane ≡ Some l → length l.tags ≡ tag_count }
+    {
+        let _known = &self.front;
+    }
+}
+
+// Whether that is the reply to what was done.
+fn is_done(reply: &Reply) -> bool
+    ensures yes { IsTrue result → reply.now ≡ Reply.Done }
+    ensures no { result ≡ false → reply.now ≡ Reply.Done → ⊥ }
+{
+    matches!(reply, Reply::Done)
+}
