@@ -7,6 +7,7 @@ pub mod Fails
 pub mod Failures
 pub mod GivenUp
 pub mod ListJobs
+pub mod Made
 pub mod Over
 pub mod Readings
 pub mod Reaps

@@ -1,5 +1,5 @@
+use Rattle.nv_host.proofs.Made.{made}
 use Rattle.nv_host.proofs.Dues.{told-beside}
-use Rattle.nv_host.specs.Served.{Served}
 use Rattle.nv_world_model.specs.declared.event.Event.TheVariants as event
 use Rattle.nv_host.proofs.host_mediator.HostMediator.admin_due.Goals as goal
 
@@ -8,5 +8,5 @@ admin_due-requires c = c.self.invariant.kept
 
 pub returns : goal.returns
 returns c = λ memory.
-    let h : Served = record { setup = record { host_bytes = c.self.inside.host_bytes; lanes = c.self.inside.lanes; geometry = c.self.inside.layout }; side = c.self.inside.front; closed = c.self.inside.closed.items } in
+    let h = made c.self.inside.host_bytes c.self.inside.lanes c.self.inside.layout c.self.inside.front c.self.inside.closed.items in
     told-beside h c.args.self.now c.self.view_is memory c.admin_due.result (event.Admin c.args.guest) tt (c.admin_due.ensures memory)

@@ -1,14 +1,14 @@
+use Rattle.nv_host.proofs.Made.{made}
 use Rattle.std.proofs.Common.{◌≡◌, ℕ, ◌+◌, replicate, arith, refl, subst}
 use Rattle.std.proofs.lemmas.List.{length-replicate}
 use Rattle.nv_host.proofs.Cleared.{zeros-alone, zeros-stored}
 use Rattle.nv_host.proofs.Ring.{lane-inside}
-use Rattle.nv_host.specs.Served.{Served}
 use Rattle.nv_model.specs.Memory.{byte_in}
 use Rattle.nv_host.proofs.host_mediator.HostMediator.clear_ring.Goals as goal
 
 pub store-requires : goal.store-requires
 store-requires g c some =
-    let h : Served = record { setup = record { host_bytes = c.self.inside.host_bytes; lanes = c.self.inside.lanes; geometry = c.self.inside.layout }; side = c.self.inside.front; closed = c.self.inside.closed.items } in
+    let h = made c.self.inside.host_bytes c.self.inside.lanes c.self.inside.layout c.self.inside.front c.self.inside.closed.items in
     let room = lane-inside h c.args.self.now c.self.view_is c.self.invariant c.args.lane c.requires.there in
     let lent = c.requires.lent in
     let at = c.in-Some.ensures.1 in
@@ -16,7 +16,7 @@ store-requires g c some =
 
 pub returns-in-Some-clause-clear : goal.returns-in-Some-clause-clear
 returns-in-Some-clause-clear g c = λ place below.
-    let h : Served = record { setup = record { host_bytes = c.self.inside.host_bytes; lanes = c.self.inside.lanes; geometry = c.self.inside.layout }; side = c.self.inside.front; closed = c.self.inside.closed.items } in
+    let h = made c.self.inside.host_bytes c.self.inside.lanes c.self.inside.layout c.self.inside.front c.self.inside.closed.items in
     let room = lane-inside h c.args.self.now c.self.view_is c.self.invariant c.args.lane c.requires.there in
     let lent = c.requires.lent in
     let at = c.in-Some.ensures.1 in
@@ -26,7 +26,7 @@ returns-in-Some-clause-clear g c = λ place below.
 
 pub returns-in-Some-clause-alone : goal.returns-in-Some-clause-alone
 returns-in-Some-clause-alone g c =
-    let h : Served = record { setup = record { host_bytes = c.self.inside.host_bytes; lanes = c.self.inside.lanes; geometry = c.self.inside.layout }; side = c.self.inside.front; closed = c.self.inside.closed.items } in
+    let h = made c.self.inside.host_bytes c.self.inside.lanes c.self.inside.layout c.self.inside.front c.self.inside.closed.items in
     let room = lane-inside h c.args.self.now c.self.view_is c.self.invariant c.args.lane c.requires.there in
     let lent = c.requires.lent in
     let at = c.in-Some.ensures.1 in

@@ -1,7 +1,7 @@
+use Rattle.nv_host.proofs.Made.{made}
 use Rattle.std.proofs.Common.{ℕ, List, refl, replicate}
 use Rattle.std.proofs.lemmas.List.{length-replicate}
 use Rattle.nv_host.proofs.Calls.{call-done, call-served, many-same}
-use Rattle.nv_host.specs.Served.{Served}
 use Rattle.nv_world_model.specs.declared.event.Event.TheVariants as event
 use Rattle.nv_host.proofs.host_mediator.HostMediator.give_up.Goals as goal
 
@@ -10,13 +10,13 @@ give_up-requires c = c.self.invariant.kept
 
 pub invariant_of-self : goal.invariant_of-self
 invariant_of-self c =
-    let h : Served = record { setup = record { host_bytes = c.self.inside.host_bytes; lanes = c.self.inside.lanes; geometry = c.self.inside.layout }; side = c.self.inside.front; closed = c.self.inside.closed.items } in
+    let h = made c.self.inside.host_bytes c.self.inside.lanes c.self.inside.layout c.self.inside.front c.self.inside.closed.items in
     let zeros : List ℕ = replicate c.args.self.now.setup.host_bytes 0 in
     call-served h c.args.self.now c.self.view_is c.self.invariant (event.GiveUp c.args.lane c.args.tag) tt c.give_up.new.self zeros zeros c.give_up.result
     (c.give_up.ensures.step zeros) (many-same h.side c.give_up.new.self c.give_up.ensures.tails) refl (length-replicate c.args.self.now.setup.host_bytes 0)
 
 pub returns : goal.returns
 returns c = λ memory.
-    let h : Served = record { setup = record { host_bytes = c.self.inside.host_bytes; lanes = c.self.inside.lanes; geometry = c.self.inside.layout }; side = c.self.inside.front; closed = c.self.inside.closed.items } in
+    let h = made c.self.inside.host_bytes c.self.inside.lanes c.self.inside.layout c.self.inside.front c.self.inside.closed.items in
     call-done h c.args.self.now c.self.view_is c.self.invariant (event.GiveUp c.args.lane c.args.tag) tt c.give_up.new.self memory memory c.give_up.result
     (c.give_up.ensures.step memory) (many-same h.side c.give_up.new.self c.give_up.ensures.tails) refl

@@ -1,10 +1,10 @@
+use Rattle.nv_host.proofs.Made.{made}
 use Rattle.std.proofs.Common.{◌≡◌, ap, sym, ◌∙◌}
 use Rattle.std.specs.Prelude.{Ok}
 use Rattle.std.specs.Result.{result_ok}
 use Rattle.nv_host.proofs.Failed.{done-alone}
 use Rattle.nv_host.proofs.Fails.{laid-there}
 use Rattle.nv_host.proofs.Reaps.{read-run}
-use Rattle.nv_host.specs.Served.{Served}
 use Rattle.nv_model.specs.declared.reply.Reply.TheVariants as reply
 use Rattle.nv_host.proofs.host_mediator.HostMediator.has_reaped.Goals as goal
 
@@ -16,7 +16,7 @@ returns-in-Ok-Done-clause-alone g c =
 
 pub returns-in-Ok-Done-clause-run : goal.returns-in-Ok-Done-clause-run
 returns-in-Ok-Done-clause-run g c = λ told.
-    let h : Served = record { setup = record { host_bytes = c.self.inside.host_bytes; lanes = c.self.inside.lanes; geometry = c.self.inside.layout }; side = c.self.inside.front; closed = c.self.inside.closed.items } in
+    let h = made c.self.inside.host_bytes c.self.inside.lanes c.self.inside.layout c.self.inside.front c.self.inside.closed.items in
     let is : c.reap.result ≡ Ok reply.Done = cc in
     read-run c.args.self.now.setup.geometry c.args.lane c.args.self.now.side c.reap.new.self.side (g.C.MemoryCell.bytes c.args.memory.now) c.reap.result
     c.args.self.now.setup.host_bytes (laid-there h c.args.self.now c.self.view_is c.self.invariant) c.reap.ensures.worlds is

@@ -1,13 +1,13 @@
+use Rattle.nv_host.proofs.Made.{made}
 use Rattle.std.proofs.Common.{◌≡◌, ℕ, ◌<◌, Option, arith, ap, subst, sym, ◌∙◌}
 use Rattle.std.specs.Option.{unwrap_or}
 use Rattle.nv_host.proofs.Ring.{few-bytes, head-small, lane-inside, ring-start}
-use Rattle.nv_host.specs.Served.{Served}
 use Rattle.nv_world_model.specs.Area.{completion_slot, ring_size}
 use Rattle.nv_host.proofs.host_mediator.HostMediator.next_slot.Goals as goal
 
 pub overflow_add-result : goal.overflow_add-result
 overflow_add-result c =
-    let h : Served = record { setup = record { host_bytes = c.self.inside.host_bytes; lanes = c.self.inside.lanes; geometry = c.self.inside.layout }; side = c.self.inside.front; closed = c.self.inside.closed.items } in
+    let h = made c.self.inside.host_bytes c.self.inside.lanes c.self.inside.layout c.self.inside.front c.self.inside.closed.items in
     let ring : c.unwrap_or-ring.result ≡ completion_slot c.args.self.now.setup.geometry.mediator c.args.lane 0 =
     c.unwrap_or-ring.ensures
     ∙ ring-start c.completion_ring.result c.args.self.now.setup.lanes c.args.lane (completion_slot c.args.self.now.setup.geometry.mediator c.args.lane 0)
@@ -21,7 +21,7 @@ overflow_add-result c =
 
 pub returns-clause-inside : goal.returns-clause-inside
 returns-clause-inside c =
-    let h : Served = record { setup = record { host_bytes = c.self.inside.host_bytes; lanes = c.self.inside.lanes; geometry = c.self.inside.layout }; side = c.self.inside.front; closed = c.self.inside.closed.items } in
+    let h = made c.self.inside.host_bytes c.self.inside.lanes c.self.inside.layout c.self.inside.front c.self.inside.closed.items in
     let ring : c.unwrap_or-ring.result ≡ completion_slot c.args.self.now.setup.geometry.mediator c.args.lane 0 =
     c.unwrap_or-ring.ensures
     ∙ ring-start c.completion_ring.result c.args.self.now.setup.lanes c.args.lane (completion_slot c.args.self.now.setup.geometry.mediator c.args.lane 0)
@@ -35,7 +35,7 @@ returns-clause-inside c =
 
 pub returns-clause-high : goal.returns-clause-high
 returns-clause-high c =
-    let h : Served = record { setup = record { host_bytes = c.self.inside.host_bytes; lanes = c.self.inside.lanes; geometry = c.self.inside.layout }; side = c.self.inside.front; closed = c.self.inside.closed.items } in
+    let h = made c.self.inside.host_bytes c.self.inside.lanes c.self.inside.layout c.self.inside.front c.self.inside.closed.items in
     let ring : c.unwrap_or-ring.result ≡ completion_slot c.args.self.now.setup.geometry.mediator c.args.lane 0 =
     c.unwrap_or-ring.ensures
     ∙ ring-start c.completion_ring.result c.args.self.now.setup.lanes c.args.lane (completion_slot c.args.self.now.setup.geometry.mediator c.args.lane 0)

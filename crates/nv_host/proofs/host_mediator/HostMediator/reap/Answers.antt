@@ -1,3 +1,4 @@
+use Rattle.nv_host.proofs.Made.{made}
 use Rattle.std.proofs.Common.{ℕ, List, ap, subst}
 use Rattle.std.specs.Prelude.{IfOk, OnErr}
 use Rattle.nv_core.specs.Front.{IsBeside, IsLive, IsStepBeside}
@@ -10,24 +11,24 @@ use Rattle.nv_host.proofs.host_mediator.HostMediator.reap.Goals as goal
 
 pub reap-requires : goal.reap-requires
 reap-requires g c =
-    let h : Served = record { setup = record { host_bytes = c.self.inside.host_bytes; lanes = c.self.inside.lanes; geometry = c.self.inside.layout }; side = c.self.inside.front; closed = c.self.inside.closed.items } in
+    let h = made c.self.inside.host_bytes c.self.inside.lanes c.self.inside.layout c.self.inside.front c.self.inside.closed.items in
     served-lent h c.args.self.now c.self.view_is c.self.invariant (g.C.MemoryCell.bytes c.args.memory.now) c.requires
 
 pub invariant_of-self : goal.invariant_of-self
 invariant_of-self g c =
-    let h : Served = record { setup = record { host_bytes = c.self.inside.host_bytes; lanes = c.self.inside.lanes; geometry = c.self.inside.layout }; side = c.self.inside.front; closed = c.self.inside.closed.items } in
+    let h = made c.self.inside.host_bytes c.self.inside.lanes c.self.inside.layout c.self.inside.front c.self.inside.closed.items in
     reap-served h c.args.self.now c.self.view_is c.self.invariant c.args.lane c.reap.new.self (g.C.MemoryCell.bytes c.args.memory.now) c.requires
     c.reap.ensures.tails c.reap.result c.reap.ensures.there c.reap.ensures.ended c.reap.ensures.same
 
 pub returns-clause-ok : goal.returns-clause-ok
 returns-clause-ok g c =
-    let h : Served = record { setup = record { host_bytes = c.self.inside.host_bytes; lanes = c.self.inside.lanes; geometry = c.self.inside.layout }; side = c.self.inside.front; closed = c.self.inside.closed.items } in
+    let h = made c.self.inside.host_bytes c.self.inside.lanes c.self.inside.layout c.self.inside.front c.self.inside.closed.items in
     reap-next h c.args.self.now c.self.view_is c.self.invariant c.args.lane c.reap.new.self (g.C.MemoryCell.bytes c.args.memory.now) c.requires
     c.reap.ensures.tails c.reap.result c.reap.ensures.beside
 
 pub returns-clause-stray : goal.returns-clause-stray
 returns-clause-stray g c =
-    let h : Served = record { setup = record { host_bytes = c.self.inside.host_bytes; lanes = c.self.inside.lanes; geometry = c.self.inside.layout }; side = c.self.inside.front; closed = c.self.inside.closed.items } in
+    let h = made c.self.inside.host_bytes c.self.inside.lanes c.self.inside.layout c.self.inside.front c.self.inside.closed.items in
     reap-stray h c.args.self.now c.self.view_is c.self.invariant c.args.lane c.reap.new.self (g.C.MemoryCell.bytes c.args.memory.now) c.requires
     c.reap.ensures.tails c.reap.result c.reap.ensures.stray
 

@@ -1,14 +1,14 @@
+use Rattle.nv_host.proofs.Made.{made}
 use Rattle.nv_host.proofs.Calls.{served-lent}
 use Rattle.nv_host.proofs.Dues.{told-live}
-use Rattle.nv_host.specs.Served.{Served}
 use Rattle.nv_host.proofs.host_mediator.HostMediator.reap_due.Goals as goal
 
 pub reap_due-requires : goal.reap_due-requires
 reap_due-requires g c =
-    let h : Served = record { setup = record { host_bytes = c.self.inside.host_bytes; lanes = c.self.inside.lanes; geometry = c.self.inside.layout }; side = c.self.inside.front; closed = c.self.inside.closed.items } in
+    let h = made c.self.inside.host_bytes c.self.inside.lanes c.self.inside.layout c.self.inside.front c.self.inside.closed.items in
     served-lent h c.args.self.now c.self.view_is c.self.invariant (g.C.MemoryCell.bytes c.args.memory.now) c.requires
 
 pub returns-clause-logs : goal.returns-clause-logs
 returns-clause-logs g c =
-    let h : Served = record { setup = record { host_bytes = c.self.inside.host_bytes; lanes = c.self.inside.lanes; geometry = c.self.inside.layout }; side = c.self.inside.front; closed = c.self.inside.closed.items } in
+    let h = made c.self.inside.host_bytes c.self.inside.lanes c.self.inside.layout c.self.inside.front c.self.inside.closed.items in
     told-live h c.args.self.now c.self.view_is (g.C.MemoryCell.bytes c.args.memory.now) c.reap_due.result c.self.invariant c.args.lane c.reap_due.ensures.beside

@@ -1,3 +1,4 @@
+use Rattle.nv_host.proofs.Made.{made}
 use Rattle.std.proofs.Common.{◌≤◌, length, subst}
 use Rattle.nv_host.proofs.Rests.{few-guests}
 use Rattle.nv_host.specs.Served.{Served}
@@ -5,5 +6,5 @@ use Rattle.nv_host.proofs.host_mediator.HostMediator.sizes.Goals as goal
 
 pub returns-clause-guests : goal.returns-clause-guests
 returns-clause-guests c =
-    let h : Served = record { setup = record { host_bytes = c.self.inside.host_bytes; lanes = c.self.inside.lanes; geometry = c.self.inside.layout }; side = c.self.inside.front; closed = c.self.inside.closed.items } in
+    let h = made c.self.inside.host_bytes c.self.inside.lanes c.self.inside.layout c.self.inside.front c.self.inside.closed.items in
     subst (λ (x : Served). length x.setup.geometry.guests ≤ 16) c.self.view_is (few-guests h.setup c.self.invariant.accepted)
