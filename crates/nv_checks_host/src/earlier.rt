@@ -16,8 +16,43 @@ use std::process::Abort;
 const COMMANDS: u16 = 2 * RING_SLOTS;
 
 /// A Write of block 5 from 3000h, and a Read of it to 4000h.
-const WRITE: [u32; 16] = [0x0009_0001, 1, 0, 0, 0, 0, 0x3000, 0, 0, 0, 5, 0, 0, 0, 0, 0];
-const READ: [u32; 16] = [0x000a_0002, 1, 0, 0, 0, 0, 0x4000, 0, 0, 0, 5, 0, 0, 0, 0, 0];
+const WRITE: [u32; 16] = [
+    0x0009_0001,
+    1,
+    0,
+    0,
+    0,
+    0,
+    0x3000,
+    0,
+    0,
+    0,
+    5,
+    0,
+    0,
+    0,
+    0,
+    0,
+];
+
+const READ: [u32; 16] = [
+    0x000a_0002,
+    1,
+    0,
+    0,
+    0,
+    0,
+    0x4000,
+    0,
+    0,
+    0,
+    5,
+    0,
+    0,
+    0,
+    0,
+    0,
+];
 
 /// What the first 16 bytes of the block are.
 const DATA: (u64, u64) = (0x0123_4567_89ab_cdef, 0xfeed_f00d);
@@ -80,5 +115,8 @@ fn a_guest_reads_what_the_drive_had(rt: HostRuntime) {
     }
     assert!(rt; finds(&mut pair), "the data isn't there");
     assert!(rt; !pair.lost && pair.differs.is_none(), "an event differs");
-    assert!(rt; pair.are_same_blocks(FIRST_BLOCK, BLOCKS), "the disk differs");
+    assert!(rt;
+        pair.are_same_blocks(FIRST_BLOCK, BLOCKS),
+        "the disk differs"
+    );
 }

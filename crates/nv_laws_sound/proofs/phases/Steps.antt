@@ -126,8 +126,8 @@ slot-clear s host clear lane at there within =
     let slot = completion_slot s.geometry.mediator lane at in
     ap phase_of
     (bytes_from-agree host (λ _. 0) slot cqe_size (λ i below.
-      let same : completion_slot s.geometry.mediator lane 0 + (cqe_size * at + i) ≡ slot + i = omega arith in
-      subst (λ (a : ℕ). host a ≡ 0) same (clear lane (cqe_size * at + i) there (omega (arith, within, below)))))
+    let same : completion_slot s.geometry.mediator lane 0 + (cqe_size * at + i) ≡ slot + i = omega arith in
+    subst (λ (a : ℕ). host a ≡ 0) same (clear lane (cqe_size * at + i) there (omega (arith, within, below)))))
     ∙ no-phase slot
 
 lane-phased : (s : SetUp) (host : ℕ → ℕ) → AreRingsClear s host → (lane : ℕ) → lane < s.lanes
