@@ -1,5 +1,5 @@
 -- The mediator of a set-up at its start.
-use Rattle.std.proofs.Common.{◌≡◌, ℕ, Bool, false, List, [], length, replicate, slice_get, Some, refl, sym, subst, ap, ◌∙◌}
+use Rattle.std.proofs.Common.{◌≡◌, ℕ, Bool, false, List, [], length, replicate, slice_get, Some, sym, subst, ap, ◌∙◌}
 use Rattle.std.proofs.lemmas.List.{length-replicate}
 use Rattle.nv_core.proofs.FrontLaws.{start-kept, start-side}
 use Rattle.nv_core.specs.Front.{Side, opening_side}

@@ -1,4 +1,4 @@
-use Rattle.std.proofs.Common.{◌≡◌, ℕ, arith, ap, ◌∙◌}
+use Rattle.std.proofs.Common.{◌≡◌, arith, ap, ◌∙◌}
 use Rattle.nv_host.proofs.Cleared.{all-alone, more-alone, more-clear}
 use Rattle.nv_host.specs.Served.{Served}
 use Rattle.nv_host.proofs.host_mediator.HostMediator.clear_rings.Goals as goal

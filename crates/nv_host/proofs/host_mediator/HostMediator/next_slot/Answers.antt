@@ -13,7 +13,7 @@ overflow_add-result c =
     ∙ ring-start c.completion_ring.result c.args.self.now.setup.lanes c.args.lane (completion_slot c.args.self.now.setup.geometry.mediator c.args.lane 0)
     c.completion_ring.ensures c.requires in
     let read : c.from.result < ring_size =
-    subst (λ (n : ℕ). n < ring_size) (sym (c.from.ensures ∙ c.unwrap_or-head.ensures ∙ ap (λ (x : Option ℕ). unwrap_or x 0) c.head.ensures))
+    subst (λ (n : ℕ). n < ring_size) (sym (c.from.ensures ∙ c.unwrap_or-head.ensures ∙ ap (λ (x : Option ℕ). unwrap_or x 0) c.head.ensures.value))
     (head-small h c.args.self.now c.self.view_is c.self.invariant c.args.lane) in
     let room = lane-inside h c.args.self.now c.self.view_is c.self.invariant c.args.lane c.requires in
     let few = few-bytes h c.args.self.now c.self.view_is c.self.invariant c.args.lane in
@@ -27,7 +27,7 @@ returns-clause-inside c =
     ∙ ring-start c.completion_ring.result c.args.self.now.setup.lanes c.args.lane (completion_slot c.args.self.now.setup.geometry.mediator c.args.lane 0)
     c.completion_ring.ensures c.requires in
     let read : c.from.result < ring_size =
-    subst (λ (n : ℕ). n < ring_size) (sym (c.from.ensures ∙ c.unwrap_or-head.ensures ∙ ap (λ (x : Option ℕ). unwrap_or x 0) c.head.ensures))
+    subst (λ (n : ℕ). n < ring_size) (sym (c.from.ensures ∙ c.unwrap_or-head.ensures ∙ ap (λ (x : Option ℕ). unwrap_or x 0) c.head.ensures.value))
     (head-small h c.args.self.now c.self.view_is c.self.invariant c.args.lane) in
     let room = lane-inside h c.args.self.now c.self.view_is c.self.invariant c.args.lane c.requires in
     let few = few-bytes h c.args.self.now c.self.view_is c.self.invariant c.args.lane in
@@ -41,7 +41,7 @@ returns-clause-high c =
     ∙ ring-start c.completion_ring.result c.args.self.now.setup.lanes c.args.lane (completion_slot c.args.self.now.setup.geometry.mediator c.args.lane 0)
     c.completion_ring.ensures c.requires in
     let read : c.from.result < ring_size =
-    subst (λ (n : ℕ). n < ring_size) (sym (c.from.ensures ∙ c.unwrap_or-head.ensures ∙ ap (λ (x : Option ℕ). unwrap_or x 0) c.head.ensures))
+    subst (λ (n : ℕ). n < ring_size) (sym (c.from.ensures ∙ c.unwrap_or-head.ensures ∙ ap (λ (x : Option ℕ). unwrap_or x 0) c.head.ensures.value))
     (head-small h c.args.self.now c.self.view_is c.self.invariant c.args.lane) in
     let room = lane-inside h c.args.self.now c.self.view_is c.self.invariant c.args.lane c.requires in
     let few = few-bytes h c.args.self.now c.self.view_is c.self.invariant c.args.lane in
