@@ -7,7 +7,7 @@ use Rattle.nv_c.specs.declared.rings.Rings.{Rings}
 use Rattle.nv_c.specs.declared.working.Scope.{Scope}
 use Rattle.nv_c.specs.declared.working.Scope.TheVariants as scope
 use Rattle.nv_core.specs.Seat.{bytes_told}
-use Rattle.nv_host.specs.Closing.{AreDone, IsLaneAlone, IsOver, IsRingAlone}
+use Rattle.nv_host.specs.Closing.{AreDone, IsEndedBy, IsLaneAlone, IsOver, IsRingAlone}
 use Rattle.nv_host.specs.Served.{IsDone, IsNext, IsUnreached, LeadsTo, Served, is_closed, is_offered, is_reap, is_served}
 use Rattle.nv_host.specs.Work.{IsWorked, scene}
 use Rattle.nv_host.specs.declared.worked.Scope.{Scope as Hosts}
@@ -65,7 +65,7 @@ IsLoaded e room filled before after old status new =
 abbrev pub IsTold : Event → (told : ℕ) → (before after : List ℕ) → (old : Served) → (status : ℕ) → (new : Served) → Type 0
 IsTold e told before after old status new =
     (status ≡ ok) × (new ≡ old) × (after ≡ before)
-    × ((log : List Logged) (z : World) → LeadsTo old before log z → told ≡ (if is_offered old e && due old.setup.geometry e z then 1 else 0))
+    × ((first : World) (log : List Logged) (z : World) → LeadsTo old first before log z → told ≡ (if is_offered old e && due old.setup.geometry e z then 1 else 0))
 
 -- of the event that a struct names
 abbrev pub IsNamedTold : c.Event → (told : ℕ) → (before after : List ℕ) → (old : Served) → (status : ℕ) → (new : Served) → Type 0
@@ -126,6 +126,7 @@ IsRaisedTold guest queue before after old status new = (new ≡ old) × IsRaised
 -- a lane was closed
 pub record IsShut (lane : ℕ) (before after : List ℕ) (old new : Served) : Type 0 where
   pub there : lane < old.setup.lanes
+  pub logs : (first : World) (log : List Logged) (z : World) → LeadsTo old first before log z → IsEndedBy lane first log new after
   pub over : IsOver old.setup.geometry lane before old.side new.side
   pub ended : AreDone lane new.side
   pub alone : IsLaneAlone lane old.side new.side
