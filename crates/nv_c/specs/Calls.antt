@@ -255,12 +255,14 @@ IsOpened s before status after =
     ⊎ ((before ≡ None) × (after ≡ None) × IsRefused refusal_of s status)
     ⊎ (IsSome before × (after ≡ before) × (status ≡ in_use))
 
--- the same with one that is lent the host's memory, by the limits of a host; the memory that is lent is as long as the set-up says, and no byte of it
--- changes but in the lanes' completion rings
+-- the same with one that is lent the host's memory, by the limits of a host; the memory that is lent is as long as the set-up says
 abbrev pub IsServing : SetUp → (lent left : List ℕ) → (before : Option Held) → (status : ℕ) → (after : Option Held) → Type 0
 IsServing s lent left before status after =
-    ((status ≡ ok) × (before ≡ None) × (length lent ≡ s.host_bytes) × AreRingsAlone s lent left
-    × ((h : Served) × (after ≡ Some (Serving h)) × IsFirst s h left × IsKept (Serving h)))
-    ⊎ ((before ≡ None) × (after ≡ None) × ((left ≡ lent) ⊎ AreRingsAlone s lent left) × IsRefused host_refusal_of s status)
-    ⊎ ((before ≡ None) × (after ≡ None) × (left ≡ lent) × (length lent ≢ s.host_bytes) × (status ≡ other_memory))
-    ⊎ (IsSome before × (after ≡ before) × (left ≡ lent) × (status ≡ in_use))
+    ((status ≡ ok) × (before ≡ None) × (length lent ≡ s.host_bytes) × ((h : Served) × (after ≡ Some (Serving h)) × IsFirst s h left × IsKept (Serving h)))
+    ⊎ ((before ≡ None) × (after ≡ None) × IsRefused host_refusal_of s status)
+    ⊎ ((before ≡ None) × (after ≡ None) × (length lent ≢ s.host_bytes) × (status ≡ other_memory))
+    ⊎ (IsSome before × (after ≡ before) × (status ≡ in_use))
+
+-- no byte of the memory has changed, or none but in the lanes' completion rings
+abbrev pub IsCleared : SetUp → (lent left : List ℕ) → Type 0
+IsCleared s lent left = (left ≡ lent) ⊎ AreRingsAlone s lent left

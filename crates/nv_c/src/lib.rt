@@ -19,7 +19,7 @@
 
 ghost use Rattle.std.specs.Prelude.{◌≡◌, ◌⊎◌, IsSome, MatchOption, None, length};
 ghost use Rattle.nv_c.specs.Calls.{Either, HasNone, IsBlockTold, IsDone, IsError, IsKeptTold, IsLeft, IsLoaded, IsNamedStep, IsNamedTold, IsOpened};
-ghost use Rattle.nv_c.specs.Calls.{IsRead, IsServing, IsStepped, IsWorkTold, Lent, OfGuest, On, no_mediator, no_such};
+ghost use Rattle.nv_c.specs.Calls.{IsRead, IsCleared, IsServing, IsStepped, IsWorkTold, Lent, OfGuest, On, no_mediator, no_such};
 ghost use Rattle.nv_c.specs.Names.{NamesNone};
 ghost use Rattle.nv_c.specs.Serving.{IsLoaded as IsLoadedLent, IsNamedStep as IsNamedStepLent, IsNamedTold as IsNamedToldLent, IsRead as IsReadLent};
 ghost use Rattle.nv_c.specs.Serving.{IsWorkLent, HasNoLane, HasNoRings, HasNoVector, IsClosed, IsRaisedTold, IsRingsTold, IsServed, IsStepped as IsSteppedLent};
@@ -45,7 +45,6 @@ mod working;
 pub use event::Event;
 pub use handle::Nvmed;
 use held::Held;
-use nv_host::HostMediator;
 use nv_mediator::Mediator;
 use nv_model::Act;
 use nv_world_model::Event as Made;
@@ -109,7 +108,8 @@ pub extern "C" fn nvmed_raw_serve(
     extents: &[GuestExtent],
     memory: &mut [u8],
 ) -> u32
-    ensures { IsServing (setup_of sizes.now limits.now regions.now extents.now) memory.old memory.new handle.old.hosted result handle.new.hosted }
+    ensures value { IsServing (setup_of sizes.now limits.now regions.now extents.now) memory.old memory.new handle.old.hosted result handle.new.hosted }
+    ensures cleared { IsCleared (setup_of sizes.now limits.now regions.now extents.now) memory.old memory.new }
 {
     if let Some(held) = handle.take(alloc) {
         handle.put(alloc, held);
@@ -122,15 +122,13 @@ pub extern "C" fn nvmed_raw_serve(
         Ok(setup) => setup,
         Err(answer) => return answer,
     };
-    let mediator = match HostMediator::new(alloc, setup, memory) {
-        Ok(mediator) => mediator,
-        Err(refusal) => return status::of_refusal(refusal),
-    };
-    let Ok(held) = Box::new(alloc, Held::Serving(mediator)) else {
-        return status::NO_MEMORY;
-    };
-    handle.put(alloc, held);
-    status::OK
+    match serving::open(alloc, setup, memory) {
+        Ok(held) => {
+            handle.put(alloc, held);
+            status::OK
+        }
+        Err(answer) => answer,
+    }
 }
 
 /// Gives back what a handle holds, and all memory that it took.

@@ -1,13 +1,16 @@
 //! What is done to a mediator that is lent the host's memory.
 
-ghost use Rattle.std.specs.Prelude.{◌≡◌, ◌==◌, ◌⊎◌, MatchResult, length};
-ghost use Rattle.nv_c.specs.Calls.{IsError, Lent, no_memory, status_of};
+ghost use Rattle.std.specs.Prelude.{◌≡◌, ◌==◌, ◌⊎◌, IfErr, IfOk, MatchResult, length};
+ghost use Rattle.nv_c.specs.Calls.{IsCleared, IsError, IsRefused, Lent, no_memory, status_of};
 ghost use Rattle.nv_c.specs.Serving.{IsClosed, IsLoaded, IsRead, IsServed, IsStepped, IsTold, IsWorkLent, hosts_scope, status_of_why};
+ghost use Rattle.nv_host.specs.Served.{IsAtStart, Served};
+ghost use Rattle.nv_world_model.specs.SetUp.{host_refusal_of};
 
 use crate::acting::dword_of;
+use crate::held::Held;
 use crate::status;
 use crate::working::Scope;
-use nv_host::{HostMediator, Scope as HostScope, Why as HostWhy};
+use nv_host::{HostMediator, Scope as HostScope, Setup, Why as HostWhy};
 use nv_mem::NoMemory;
 use nv_model::{Act, Reply};
 use nv_world_model::Event;
@@ -18,6 +21,33 @@ fn fits(mediator: &HostMediator, memory: &[u8]) -> bool
     ensures { result ≡ (length memory.now == mediator.now.setup.host_bytes) }
 {
     memory.len() as u64 == mediator.host_bytes()
+}
+
+/// The mediator of a set-up, in a box of its own; or what is answered where there is none.
+pub(crate) fn open(alloc: Global, setup: Setup, memory: &mut [u8]) -> Result<Box<Held>, u32>
+    requires { length memory.old ≡ setup.host_bytes }
+    ensures ok { IfOk result (λ held. (h : Served) × (held.value ≡ Held.Serving h) × IsAtStart setup h memory.new) }
+    ensures err { IfErr result (λ answer. IsRefused host_refusal_of setup answer) }
+    ensures cleared { IsCleared setup memory.old memory.new }
+{
+    let mediator = made(alloc, setup, memory)?;
+    match Box::new(alloc, Held::Serving(mediator)) {
+        Ok(held) => Ok(held),
+        Err(_) => Err(status::NO_MEMORY),
+    }
+}
+
+// The mediator of a set-up, or what is answered where there is none.
+fn made(alloc: Global, setup: Setup, memory: &mut [u8]) -> Result<HostMediator, u32>
+    requires { length memory.old ≡ setup.host_bytes }
+    ensures ok { IfOk result (λ mediator. IsAtStart setup mediator memory.new) }
+    ensures err { IfErr result (λ answer. IsRefused host_refusal_of setup answer) }
+    ensures cleared { IsCleared setup memory.old memory.new }
+{
+    match HostMediator::new(alloc, setup, memory) {
+        Ok(mediator) => Ok(mediator),
+        Err(refusal) => Err(status::of_refusal(refusal)),
+    }
 }
 
 /// A guest stores these bytes from its address `address` on: what it is answered.
@@ -129,7 +159,7 @@ fn stepped(alloc: Global, mediator: &mut HostMediator, event: &Event, memory: &m
             }
         }
         Event::Submit(lane, tag) => of_room(mediator.submit(alloc, *lane, *tag, memory)),
-        Event::GiveUp(lane, tag) => status::of_reply(&mediator.give_up(*lane, *tag)),
+        Event::GiveUp(lane, tag) => give_up(mediator, *lane, *tag, memory),
         Event::Reap(lane) => match mediator.reap(*lane, memory) {
             Ok(reply) => status::of_reply(&reply),
             Err(_stray) => status::STRAY,
@@ -141,6 +171,13 @@ fn stepped(alloc: Global, mediator: &mut HostMediator, event: &Event, memory: &m
         Event::DevFail(_lane, _slot, _status) => status::NO_SUCH,
         Event::Keep(_block) => status::NO_SUCH,
     }
+}
+
+// A command is given up, whatever is in the memory that is lent.
+fn give_up(mediator: &mut HostMediator, lane: u8, tag: u8, _memory: &[u8]) -> u32
+    ensures { IsServed (Event.GiveUp lane tag) _memory.now _memory.now mediator.old result mediator.new }
+{
+    status::of_reply(&mediator.give_up(lane, tag))
 }
 
 // What an event is answered for which there may be no memory.
