@@ -10,7 +10,7 @@
 static int wrong;
 
 /* How many calls there were of each function, in the order of their first calls. */
-enum { FUNCTIONS = 16 };
+enum { FUNCTIONS = 20 };
 static struct { const char *name; int calls; } called[FUNCTIONS];
 
 /* Counts a call of the function whose name the text begins with. */

@@ -114,6 +114,12 @@ static void numbers_everywhere(nvmed *m) {
         memset(bytes, 0, sizeof bytes);
         want("load", whole, nvmed_load(m, 0, p, bytes, sizeof bytes));
         left("store and load", whole != NVMED_OK || (bytes[0] == (uint8_t)i && memory[0x100000 + p] == (uint8_t)i));
+        want("rings", (uint32_t)p ? NVMED_NO_SUCH : NVMED_OK, nvmed_rings(m, (uint32_t)p, &rings));
+        want("pending", (uint32_t)p > 255 ? NVMED_NO_SUCH : (uint32_t)p ? NVMED_IGNORED : NVMED_OK, nvmed_pending(m, (uint32_t)p, vectors, &count));
+        want("memory", NVMED_NO_SUCH, nvmed_memory(m, 0, p, bytes, sizeof bytes, &at, &done));
+        want("block", NVMED_NO_SUCH, nvmed_block(m, p, &at));
+        want("kept", NVMED_NO_SUCH, nvmed_kept(m, p, &word));
+        any("work", nvmed_work(m, NVMED_OF_LANE, 0, p, &done));
         any("reg_read", nvmed_reg_read(m, 0, (uint32_t)p, &word));
         any("reg_write", nvmed_reg_write(m, 0, (uint32_t)p, 0));
         any("doorbell", nvmed_doorbell(m, 0, (uint32_t)p, 0));
