@@ -23,12 +23,12 @@ blocks=$(cat /sys/block/nvme0n1/size)
 grep -i 'compare' /tmp/said
 grep -i 'LBA_RANGE\|range' /tmp/said
 # a file system
-mke2fs -q -t ext4 -E nodiscard $disk
+/usr/bin/mke2fs -q -t ext4 -E nodiscard $disk
 mount -t ext4 $disk /mnt
 for i in 1 2 3 4 5 6 7 8; do head -c 500000 /dev/urandom > "/mnt/file$i"; done
 (cd /mnt && sha256sum file* > /tmp/sums && cp /tmp/sums sums)
 umount /mnt
-e2fsck -f -n $disk
+/usr/bin/e2fsck -f -n $disk
 mount -t ext4 $disk /mnt
 (cd /mnt && sha256sum -c sums)
 # random reads and writes with verification, on the last quarter of the drive
