@@ -4,8 +4,6 @@
 #     bench/vm.sh linux       two guests at the same time, each with two extents that alternate on the drive: the commands of nvme-cli, a file system,
 #                             fio with verification; a third guest sends random commands and resets its controller meanwhile. Then all is started
 #                             again, and the file systems are as they were; and the blocks of the drive that are no guest's have not changed
-#     bench/vm.sh drive       the same on the NVMe controller of a QEMU, by its qtest socket
-#     bench/vm.sh firmware    SeaBIOS boots a boot sector from the drive
 #
 # It needs qemu-system-x86, busybox-static, nvme-cli, fio, e2fsprogs and cpio of Debian, and gets a kernel by apt-get download. What it unpacks is kept in
 # VM_CACHE (else ~/.cache/nvmed-vm). The library is taken from LIBRARY, as by bench/c.sh, or built. Each run ends by itself within ten minutes. The last
@@ -17,8 +15,9 @@ cache=${VM_CACHE:-${XDG_CACHE_HOME:-$HOME/.cache}/nvmed-vm}
 modules=(crypto/crct10dif_common lib/crc64 crypto/crc64_rocksoft_generic lib/crc64-rocksoft lib/crc-t10dif block/t10-pi drivers/nvme/host/nvme-core
     drivers/nvme/host/nvme lib/crc16 crypto/crc32c_generic fs/mbcache fs/jbd2/jbd2 fs/ext4/ext4)
 programs=(nvme mke2fs fio e2fsck)
+# KVM=1 takes KVM, which is of no use where it is nested
 accelerator=tcg
-[[ ! -w /dev/kvm || -n ${TCG:-} ]] || accelerator=kvm
+[[ -z ${KVM:-} ]] || accelerator=kvm
 # under TCG no interrupt gets through QEMU's proxy: the kernel polls (docs/HOSTING.md)
 words="console=ttyS0 quiet panic=-1 pci=nomsi irqpoll nolapic_timer"
 [[ $accelerator == tcg ]] || words="console=ttyS0 quiet panic=-1 pci=nomsi"
@@ -32,8 +31,8 @@ stop() {
     exit 1
 }
 
-[[ $# == 1 && ($1 == linux || $1 == drive || $1 == firmware) ]] || {
-    sed -n '4,8s/^# \{0,5\}//p' "$0" >&2
+[[ $# == 1 && $1 == linux ]] || {
+    sed -n '4,6s/^# \{0,5\}//p' "$0" >&2
     exit 2
 }
 
@@ -177,12 +176,7 @@ linux_on() {
 needed
 make_guest
 make_host
-case $1 in
-    linux)
-        paint "$room/image"
-        linux_on "ram $(stat -c %s "$room/image") $room/image"
-        ;;
-    *) stop "$1 is not there yet" ;;
-esac
+paint "$room/image"
+linux_on "ram $(stat -c %s "$room/image") $room/image"
 echo "$passed passed, $failed failed"
 [[ $failed == 0 ]]
