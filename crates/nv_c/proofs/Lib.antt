@@ -1,3 +1,4 @@
+pub mod Cleared
 pub mod Handles
 pub mod Tables
 pub mod Views

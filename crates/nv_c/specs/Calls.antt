@@ -263,6 +263,6 @@ IsServing s lent left before status after =
     ⊎ ((before ≡ None) × (after ≡ None) × (length lent ≢ s.host_bytes) × (status ≡ other_memory))
     ⊎ (IsSome before × (after ≡ before) × (status ≡ in_use))
 
--- no byte of the memory has changed, or none but in the lanes' completion rings
-abbrev pub IsCleared : SetUp → (lent left : List ℕ) → Type 0
-IsCleared s lent left = (left ≡ lent) ⊎ AreRingsAlone s lent left
+-- the lanes' completion rings alone were cleared, for a mediator that was made, or for which there was no memory; else no byte has changed
+abbrev pub IsCleared : SetUp → (status : ℕ) → (lent left : List ℕ) → Type 0
+IsCleared s status lent left = ((status ≡ ok) ⊎ (status ≡ no_memory)) × AreRingsAlone s lent left ⊎ (left ≡ lent)

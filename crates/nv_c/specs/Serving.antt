@@ -6,6 +6,8 @@ use Rattle.nv_c.specs.declared.event.Event as c
 use Rattle.nv_c.specs.declared.rings.Rings.{Rings}
 use Rattle.nv_c.specs.declared.working.Scope.{Scope}
 use Rattle.nv_c.specs.declared.working.Scope.TheVariants as scope
+use Rattle.nv_core.specs.Front.{IsBeside}
+use Rattle.nv_core.specs.Reaping.{waits_in}
 use Rattle.nv_core.specs.Seat.{bytes_told}
 use Rattle.nv_host.specs.Closing.{AreDone, IsEndedBy, IsLaneAlone, IsOver, IsRingAlone}
 use Rattle.nv_host.specs.Served.{IsDone, IsNext, IsUnreached, LeadsTo, Served, is_closed, is_offered, is_reap, is_served}
@@ -44,7 +46,7 @@ IsStepped e before after old status new =
     ⊎ IsTrue (is_reap e) × IsUnreached old before × IsNotDone stray before after old status new
     ⊎ (is_offered old e ≡ false) × IsTrue (is_served e) × IsNotDone closed before after old status new
     ⊎ (is_served e ≡ false) × IsNotDone no_such before after old status new
-    ⊎ IsTrue (may_want e) × IsNotDone no_memory before after old status new
+    ⊎ IsTrue (may_want e) × IsTrue (is_served e) × IsNotDone no_memory before after old status new
 
 -- of the event that a struct names
 abbrev pub IsNamedStep : c.Event → (before after : List ℕ) → (old : Served) → (status : ℕ) → (new : Served) → Type 0
@@ -61,11 +63,13 @@ IsLoaded e room filled before after old status new =
     (r : Reply) × (status ≡ status_of r) × (new ≡ old)
     × ((r ≡ reply.Done) × IsDone e old before (reply.Bytes filled) old after ⊎ (bytes_told r ≡ None) × (filled ≡ room) × IsDone e old before r old after)
 
--- it was reported whether the event is due where a log leads to the mediator and the memory, and not for a lane that was closed; nothing has changed
+-- it was reported whether the event is due in each world of a log that leads there, and, but for a Reap, in each in which the mediator may be at all; none
+-- is for a lane that was closed. Nothing has changed
 abbrev pub IsTold : Event → (told : ℕ) → (before after : List ℕ) → (old : Served) → (status : ℕ) → (new : Served) → Type 0
 IsTold e told before after old status new =
     (status ≡ ok) × (new ≡ old) × (after ≡ before)
     × ((first : World) (log : List Logged) (z : World) → LeadsTo old first before log z → told ≡ (if is_offered old e && due old.setup.geometry e z then 1 else 0))
+    × ((w : World) → IsBeside old.side before w → is_reap e ≡ false → told ≡ (if is_offered old e && due old.setup.geometry e w then 1 else 0))
 
 -- of the event that a struct names
 abbrev pub IsNamedTold : c.Event → (told : ℕ) → (before after : List ℕ) → (old : Served) → (status : ℕ) → (new : Served) → Type 0
@@ -131,6 +135,7 @@ pub record IsShut (lane : ℕ) (before after : List ℕ) (old new : Served) : Ty
   pub ended : AreDone lane new.side
   pub alone : IsLaneAlone lane old.side new.side
   pub ring : IsRingAlone old.setup.geometry lane before after
+  pub idle : waits_in old.setup.geometry lane (slice_get new.side.lanes lane) after ≡ false
   pub closed : new.closed ≡ slice_set old.closed lane true
   pub setup : new.setup ≡ old.setup
 

@@ -109,7 +109,7 @@ pub extern "C" fn nvmed_raw_serve(
     memory: &mut [u8],
 ) -> u32
     ensures value { IsServing (setup_of sizes.now limits.now regions.now extents.now) memory.old memory.new handle.old.hosted result handle.new.hosted }
-    ensures cleared { IsCleared (setup_of sizes.now limits.now regions.now extents.now) memory.old memory.new }
+    ensures cleared { IsCleared (setup_of sizes.now limits.now regions.now extents.now) result memory.old memory.new }
 {
     if let Some(held) = handle.take(alloc) {
         handle.put(alloc, held);

@@ -1,9 +1,9 @@
 //! What is done to a mediator that is lent the host's memory.
 
-ghost use Rattle.std.specs.Prelude.{◌≡◌, ◌==◌, ◌⊎◌, IfErr, IfOk, MatchResult, length};
-ghost use Rattle.nv_c.specs.Calls.{IsCleared, IsError, IsRefused, Lent, no_memory, status_of};
+ghost use Rattle.std.specs.Prelude.{◌≡◌, ◌==◌, ◌⊎◌, IfErr, IfOk, MatchResult, OnErr, length};
+ghost use Rattle.nv_c.specs.Calls.{IsError, IsRefused, Lent, no_memory, status_of};
 ghost use Rattle.nv_c.specs.Serving.{IsClosed, IsLoaded, IsRead, IsServed, IsStepped, IsTold, IsWorkLent, hosts_scope, status_of_why};
-ghost use Rattle.nv_host.specs.Served.{IsAtStart, Served};
+ghost use Rattle.nv_host.specs.Served.{AreRingsAlone, IsAtStart, Served};
 ghost use Rattle.nv_world_model.specs.SetUp.{host_refusal_of};
 
 use crate::acting::dword_of;
@@ -28,9 +28,13 @@ pub(crate) fn open(alloc: Global, setup: Setup, memory: &mut [u8]) -> Result<Box
     requires { length memory.old ≡ setup.host_bytes }
     ensures ok { IfOk result (λ held. (h : Served) × (held.value ≡ Held.Serving h) × IsAtStart setup h memory.new) }
     ensures err { IfErr result (λ answer. IsRefused host_refusal_of setup answer) }
-    ensures cleared { IsCleared setup memory.old memory.new }
+    ensures rings { IfOk result (λ _. AreRingsAlone setup memory.old memory.new) }
+    ensures left { IfErr result (λ answer. (answer ≡ no_memory) × AreRingsAlone setup memory.old memory.new ⊎ (memory.new ≡ memory.old)) }
 {
-    let mediator = made(alloc, setup, memory)?;
+    let mediator = match made(alloc, setup, memory) {
+        Ok(mediator) => mediator,
+        Err(answer) => return Err(answer),
+    };
     match Box::new(alloc, Held::Serving(mediator)) {
         Ok(held) => Ok(held),
         Err(_) => Err(status::NO_MEMORY),
@@ -42,7 +46,8 @@ fn made(alloc: Global, setup: Setup, memory: &mut [u8]) -> Result<HostMediator, 
     requires { length memory.old ≡ setup.host_bytes }
     ensures ok { IfOk result (λ mediator. IsAtStart setup mediator memory.new) }
     ensures err { IfErr result (λ answer. IsRefused host_refusal_of setup answer) }
-    ensures cleared { IsCleared setup memory.old memory.new }
+    ensures rings { IfOk result (λ _. AreRingsAlone setup memory.old memory.new) }
+    ensures left { OnErr result (memory.new ≡ memory.old) }
 {
     match HostMediator::new(alloc, setup, memory) {
         Ok(mediator) => Ok(mediator),
