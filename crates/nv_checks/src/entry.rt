@@ -233,12 +233,12 @@ fn numbers_of(ended: &Cqe) -> [u32; 8] {
     [
         ended.dw0(),
         ended.dw1(),
-        ended.sqhd().into(),
-        ended.sqid().into(),
-        ended.cid().into(),
-        ended.sc().into(),
-        ended.sct().into(),
-        ended.crd().into(),
+        u32::from(ended.sqhd()),
+        u32::from(ended.sqid()),
+        u32::from(ended.cid()),
+        u32::from(ended.sc()),
+        u32::from(ended.sct()),
+        u32::from(ended.crd()),
     ]
 }
 

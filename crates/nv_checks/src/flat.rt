@@ -4,6 +4,7 @@ mod blocks;
 mod region_pages;
 mod segments;
 
+use byteorder::{ByteOrder, LittleEndian};
 use nv_entry::Sqe;
 use nv_flat::FlatController;
 use std::alloc::Global;
@@ -45,9 +46,7 @@ pub(crate) const DIFFERS: u32 = 0x050b_0007;
 /// The entry of these dwords.
 pub(crate) fn entry(dwords: [u32; 16]) -> Sqe {
     let mut bytes = [0; 64];
-    for (dword, out) in dwords.iter().zip(bytes.chunks_exact_mut(4)) {
-        out.copy_from_slice(&dword.to_le_bytes());
-    }
+    LittleEndian::write_u32_into(&dwords, &mut bytes);
     Sqe::of(&bytes)
 }
 
@@ -101,7 +100,7 @@ fn filled(rt: &impl Abort, controller: &FlatController, addr: u64, byte: u8) -> 
     let mut bytes = [0; 512];
     assert!(rt; controller.holds(addr, 512));
     controller.load(addr, &mut bytes);
-    bytes.iter().all(|b| *b == byte)
+    bytes == [byte; 512]
 }
 
 /// Each of these addresses begins 512 bytes of this value.
@@ -113,7 +112,7 @@ pub(crate) fn filled_are(rt: &impl Abort, controller: &FlatController, want: &[(
 
 fn block_is(rt: &impl Abort, controller: &FlatController, block: u64, byte: u8) -> bool {
     assert!(rt; block < controller.blocks());
-    controller.block(block).iter().all(|b| *b == byte)
+    *controller.block(block) == [byte; 512]
 }
 
 /// Each of these blocks is filled with this byte.

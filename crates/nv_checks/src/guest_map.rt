@@ -258,7 +258,7 @@ const HELD: &[(u64, u64, bool)] = &[
 
 fn check_held(rt: &impl Abort, map: &GuestMap, rows: &[(u64, u64, bool)]) {
     for (addr, len, want) in rows {
-        assert!(rt; map.holds(*addr, *len) == *want, "{len} bytes at {addr}");
+        assert!(rt; map.holds(*addr, *len) == *want, "{addr:#x}");
     }
 }
 
@@ -372,8 +372,10 @@ fn has_each_page_in_place(map: &GuestMap, pages: u64) -> bool {
 }
 
 fn has_byte_in_place(map: &GuestMap, addr: u64) -> bool {
-    let host = paired_at(addr);
-    map.run(addr, 1) == host.map(|host| (host, 1)) && map.holds(addr, 1) == host.is_some()
+    match paired_at(addr) {
+        Some(host) => map.run(addr, 1) == Some((host, 1)) && map.holds(addr, 1),
+        None => map.run(addr, 1).is_none() && !map.holds(addr, 1),
+    }
 }
 
 /// An address, a length, and whether so many bytes from there on are mapped by 64 paired pages, or more.

@@ -5,13 +5,16 @@
 //! at each limit, calls again where memory was refused, and phase tags beside positions.
 //!
 //! The mediator without a log is tried beside a world, which keeps one: it answers the same, and leaves the same memory and disk. [`promised`] has
-//! what the words of both contracts' promises give. It is one crate, since each crate of tests is linked with all that is below it.
+//! what the words of both contracts' promises give. [`beside`] compares what an honest guest sees beside one that is not honest with what it sees
+//! alone. It is one crate, since each crate of tests is linked with all that is below it.
 #![tactic(auto)]
 
 #[cfg(test)]
 mod alike;
 #[cfg(test)]
 mod bench;
+#[cfg(test)]
+mod beside;
 #[cfg(test)]
 mod commands;
 #[cfg(test)]

@@ -11,9 +11,9 @@ use crate::notes::Notes;
 use crate::planning::GuestPlanner;
 use crate::simulated::go_on;
 use crate::simulated_guest::{entry_of, range_of};
-use crate::simulated_start::planned;
 use crate::simulated_worlds::{Extents, MANY, ONE, TWO};
 use crate::tasks::Turn;
+use nv_plan::{Job, Planned, make_plan};
 use nv_world::World;
 use std::alloc::Global;
 use std::process::Abort;
@@ -139,6 +139,17 @@ fn plan_on(
         Turn::Read(_, _) => Some(Concern::nobody()),
         Turn::Done(told) => Some(told),
         Turn::Nothing => None,
+    }
+}
+
+// What comes of a job; as where there is no memory, where it is starved or there is no such guest.
+fn planned(world: &World, alloc: Global, job: Job, is_starved: bool) -> Planned {
+    let guest = job.guest;
+    match (world.map(guest), world.range(guest), world.limit(guest)) {
+        (Some(map), Some(ns), Some(limit)) if !is_starved => {
+            make_plan(alloc, alloc, job, map, ns, limit)
+        }
+        _ => Planned::NoMemory(job),
     }
 }
 

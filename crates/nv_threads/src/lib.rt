@@ -66,19 +66,17 @@ mod shared;
 #[cfg(test)]
 mod simulated;
 #[cfg(test)]
-mod simulated_alike;
-#[cfg(test)]
 mod simulated_counts;
+#[cfg(test)]
+mod simulated_due;
 #[cfg(test)]
 mod simulated_guest;
 #[cfg(test)]
+mod simulated_noted;
+#[cfg(test)]
 mod simulated_seats;
 #[cfg(test)]
-mod simulated_start;
-#[cfg(test)]
 mod simulated_worlds;
-#[cfg(test)]
-mod start;
 mod sums;
 mod tasks;
 mod telling;

@@ -1,10 +1,10 @@
-//! The workers without threads, one turn at a time in random order, beside the original workers, whose code is in `start` as it was.
+//! The workers without threads, one turn at a time in random order, in a world in which guests act.
 //!
-//! Both have a world of their own, in which the same guests act. Where a worker gets a turn, the original one gets one, too. Both must make the
-//! same event with the same answer, or none. A worker that waits for a bell which was not rung makes none: then the original one must have found
-//! none where it checked everything. A guest to which something was posted has news. Its planners are notified where another entry may be at the
-//! front of its queue and a lane is short of tags. From time to time both worlds are shared anew, so that workers start with commands that are
-//! under way. Guests have one extent each, or several, so that their commands take several tags and tags run out.
+//! A worker that makes an event makes one that is due. A worker that makes none, since it found nothing or waits for a bell that was not rung, has
+//! nothing to do: the world is polled for it everywhere, without notes (`simulated_due`). A guest to which something was posted has news. Its
+//! planners are notified where another entry may be at the front of its queue and a lane is short of tags. From time to time the world is shared
+//! anew, so that workers start with commands that are under way. Guests have one extent each, or several, so that their commands take several tags
+//! and tags run out.
 
 use crate::bits::bit;
 use crate::concern::Concern;
@@ -16,26 +16,32 @@ use crate::notes::Notes;
 use crate::planning::GuestPlanner;
 use crate::reaping::LaneReaper;
 use crate::shared::Shared;
-use crate::simulated_alike::{Move, are_all_alike, moved, note_the_same};
 use crate::simulated_counts::{Ended, Met, are_sizes_noted};
+use crate::simulated_due::{
+    ALL_UNITS, FEW_UNITS, has_nothing_to_move, has_nothing_to_plan, has_nothing_to_reap, was_due,
+};
 use crate::simulated_guest::{Chance, Guest, is_reset, is_store};
+use crate::simulated_noted::note_the_same;
 use crate::simulated_seats::{MakerSeat, Seat, devices, makers, planners, reapers};
-use crate::simulated_start::{LOOKS, PASSES, Start};
 use crate::simulated_worlds::{
-    Extents, FEW, GUESTS, LANES, MANY, ONE, entry, events, most_of, opened, step,
+    Extents, FEW, GUESTS, LANES, MANY, ONE, entry, events, most_of, opened, step, taken_by,
 };
 use crate::tasks::{Task, Turn};
 use crate::telling::tell;
-use nv_mem::NoMemory;
 use nv_model::Act;
 use nv_model::limits::TAGS;
 use nv_world::World;
-use nv_world_model::Event;
+use nv_world_model::{Event, Logged};
 use std::alloc::Global;
 use std::process::Abort;
 use std::sync::Wait;
 use std::test::Fail;
 use std::time::Clock;
+
+/// How many turns in a row a planner, and the physical controller on a lane, may have without an event.
+const LOOKS: u32 = 200;
+
+const PASSES: u32 = 140_000;
 
 /// How many simulations there are, one a seed, where guests have one extent, and of each kind where they have several.
 const SIMULATIONS: u64 = 12;
@@ -55,13 +61,12 @@ const CHECKED: u32 = 61;
 /// How many turns workers have alone until all commands have run out.
 const LAST_TURNS: u32 = 10_000;
 
-/// Both worlds with their guests and workers.
+/// A world with its guests and workers.
 #[derive(Drop)]
 struct Simulation<'a> {
     alloc: Global,
     // what each guest was given
     givens: &'a [GrantCopy],
-    start: Start,
     locked: Locked,
     // how many extents the guest has that has most
     most: u32,
@@ -79,7 +84,7 @@ struct Simulation<'a> {
 }
 
 impl<'a> Simulation<'a> {
-    // Worlds without workers.
+    // A world without workers.
     fn new(alloc: Global, extents: &Extents, givens: &'a [GrantCopy]) -> Result<Self, Fail> {
         let world = opened(alloc, extents)?;
         let notes = Notes::of(&world);
@@ -90,7 +95,6 @@ impl<'a> Simulation<'a> {
         Ok(Simulation {
             alloc,
             givens,
-            start: Start::new(alloc, extents)?,
             locked: Locked { world, notes },
             most: most_of(extents),
             guests,
@@ -104,24 +108,23 @@ impl<'a> Simulation<'a> {
         })
     }
 
-    // Workers start on both worlds as they are, in the place of others, after somebody else has taken commands.
+    // Workers start on the world as it is, in the place of others, after somebody else has taken commands.
     fn share(&mut self, chance: &mut Chance) -> Result<(), Fail> {
         for guest in 0..GUESTS {
             for lane in 0..LANES {
-                self.take(guest, lane, chance.below(4));
+                take(
+                    &mut self.locked.world,
+                    self.alloc,
+                    guest,
+                    lane,
+                    chance.below(4),
+                );
                 self.note_owners(lane)?;
             }
         }
-        self.start.share()?;
         self.locked.notes = Notes::of(&self.locked.world);
         self.ended.share(&self.locked.notes);
         self.sit_down()
-    }
-
-    // So many commands of a guest are taken in both worlds, where there are as many.
-    fn take(&mut self, guest: u8, lane: u8, count: u64) {
-        take_in(&mut self.start.world, self.alloc, guest, lane, count);
-        take_in(&mut self.locked.world, self.alloc, guest, lane, count);
     }
 
     // Workers that have polled nothing yet.
@@ -147,23 +150,16 @@ impl<'a> Simulation<'a> {
         }
     }
 
-    // Whether both logs have the same entries after so many events.
-    fn went_alike(&self, before: usize) -> bool {
-        are_all_alike(&self.start.world, &self.locked.world, before)
+    // The event that a worker made after so many, where it made one.
+    fn made(&self, before: usize) -> Option<&Logged> {
+        entry(&self.locked.world, before)
     }
 
-    // What the last event was, where it was made after so many.
-    fn made(&self, before: usize) -> Option<Move> {
-        moved(&entry(&self.locked.world, before)?.event)
-    }
-
-    // A guest's act, in both worlds; whether those that should be notified were.
+    // A guest's act; whether those that should be notified were.
     fn act(&mut self, guest: u8, act: Act) -> Result<bool, Fail> {
         let errand = Errand::of(&act);
         let is_store = is_store(&act);
         self.met.resets = self.met.resets.saturating_add(u64::from(is_reset(&act)));
-        let again = act.try_clone(self.alloc)?;
-        tell(&mut self.start.world, self.alloc, guest, again)?;
         tell(&mut self.locked.world, self.alloc, guest, act)?;
         let concern = self.locked.concern(guest, errand);
         self.ring(concern);
@@ -195,16 +191,15 @@ impl<'a> Simulation<'a> {
         Ok(is_right)
     }
 
-    // A turn of a lane's reaper; whether it notified those it should.
+    // A turn of a lane's reaper; whether it made what it should, and notified those it should.
     fn reaper_turn(&mut self, lane: u8, is_late: bool) -> bool {
         let before = events(&self.locked.world);
         let notes = self.locked.notes;
-        self.start.reaper_turn(lane);
         let Some(seat) = self.reapers.get_mut(usize::from(lane)) else {
             return false;
         };
         if !seat.looks(is_late) {
-            return true;
+            return has_nothing_to_reap(&self.locked.world, lane);
         }
         if seat.waits {
             self.met.woken = self.met.woken.saturating_add(u64::from(seat.is_rung));
@@ -213,12 +208,20 @@ impl<'a> Simulation<'a> {
         seat.is_rung = false;
         let concern = seat.worker.turn(&mut self.locked, self.alloc);
         seat.waits = concern.is_none();
-        let told = concern.unwrap_or(Concern::nobody());
+        let Some(told) = concern else {
+            return has_nothing_to_reap(&self.locked.world, lane);
+        };
         self.ring(told);
         self.ended.follow(&notes, entry(&self.locked.world, before));
-        match self.made(before) {
-            Some(Move::Post(lane, tag)) => {
-                let owner = self.owner(lane, tag);
+        let Some(logged) = self.made(before) else {
+            return false;
+        };
+        if !was_due(logged) {
+            return false;
+        }
+        match &logged.event {
+            Event::Post(lane, tag) => {
+                let owner = self.owner(*lane, *tag);
                 told.guests == bit(owner) && self.has_rung(owner, told)
             }
             _ => told.guests == 0,
@@ -243,15 +246,26 @@ impl<'a> Simulation<'a> {
         Ok(())
     }
 
-    // Turns of the physical controller on a lane until it has made an event or has none to make; whether they came to an end.
+    // Whether a lane has nothing for its physical controller. One time in eight all units are asked for.
+    fn has_nothing_to_move(&self, lane: u8) -> bool {
+        let world = &self.locked.world;
+        let units = if events(world) % 8 == 0 {
+            ALL_UNITS
+        } else {
+            FEW_UNITS
+        };
+        has_nothing_to_move(world, lane, units)
+    }
+
+    // Turns of the physical controller on a lane until it has made an event or has none to make; whether they came to an end, and it made what it
+    // should.
     fn device_turn(&mut self, lane: u8, is_late: bool) -> bool {
         let before = events(&self.locked.world);
-        let ended = self.start.device_turn(lane);
         let Some(seat) = self.devices.get_mut(usize::from(lane)) else {
             return false;
         };
         if !seat.looks(is_late) {
-            return ended;
+            return self.has_nothing_to_move(lane);
         }
         if seat.waits {
             self.met.woken = self.met.woken.saturating_add(u64::from(seat.is_rung));
@@ -263,18 +277,20 @@ impl<'a> Simulation<'a> {
         for _ in 0..PASSES {
             let concern = seat.worker.turn(&mut self.locked, self.alloc);
             seat.waits = concern.is_none();
-            if seat.waits {
-                return ended;
-            }
-            if events(&self.locked.world) != before {
-                self.ring(concern.unwrap_or(Concern::nobody()));
-                return ended;
+            let Some(told) = concern else {
+                return self.has_nothing_to_move(lane);
+            };
+            if let Some(logged) = entry(&self.locked.world, before) {
+                let is_right = was_due(logged);
+                self.ring(told);
+                return is_right;
             }
         }
         false
     }
 
-    // Turns of a planner until it has made an event or has none to make; whether they came to an end, and notified those they should.
+    // Turns of a planner until it has made an event or has none to make; whether they came to an end, and it made what it should and notified
+    // those it should.
     fn planner_turn<R: Wait + Clock>(
         &mut self,
         rt: &R,
@@ -283,14 +299,13 @@ impl<'a> Simulation<'a> {
         is_starved: bool,
     ) -> Result<bool, Fail> {
         let before = events(&self.locked.world);
-        if !self.start.planner_turn(at, is_starved) {
-            return Ok(false);
-        }
         let Some(seat) = self.planners.get_mut(at) else {
             return Ok(false);
         };
+        let guest = seat.worker.guest;
+        let lane = seat.worker.lane;
         if !seat.looks(is_late) {
-            return Ok(true);
+            return Ok(has_nothing_to_plan(&self.locked.world, self.alloc, guest, lane)?);
         }
         if seat.waits {
             self.met.woken = self.met.woken.saturating_add(u64::from(seat.is_rung));
@@ -298,7 +313,7 @@ impl<'a> Simulation<'a> {
         seat.is_rung = false;
         for _ in 0..LOOKS {
             let Some(told) = self.planner_step(rt, at, is_starved) else {
-                return Ok(true);
+                return Ok(has_nothing_to_plan(&self.locked.world, self.alloc, guest, lane)?);
             };
             self.ring(told);
             if events(&self.locked.world) != before {
@@ -308,16 +323,20 @@ impl<'a> Simulation<'a> {
         Ok(false)
     }
 
-    // Whether the guest was notified of the event after so many, where that event has an admin command's answer. Whose commands were taken is
+    // Whether the event after so many was due, and the guest was notified of it where it is an admin command's answer. Whose commands were taken is
     // noted.
     fn has_told(&mut self, before: usize, told: Concern) -> Result<bool, Fail> {
-        let logged = entry(&self.locked.world, before);
-        self.ended.follow(&self.locked.notes, logged);
-        match self.made(before) {
-            Some(Move::Admin(guest)) => {
-                Ok(told.guests == bit(guest) && self.has_rung(guest, told))
-            }
-            Some(Move::Take(guest, _, lane)) => {
+        let Some(logged) = entry(&self.locked.world, before) else {
+            return Ok(false);
+        };
+        self.ended.follow(&self.locked.notes, Some(logged));
+        if !was_due(logged) {
+            return Ok(false);
+        }
+        match &logged.event {
+            Event::Admin(guest) => Ok(told.guests == bit(*guest) && self.has_rung(*guest, told)),
+            Event::Take(guest, _queue, lane) => {
+                let (guest, lane) = (*guest, *lane);
                 self.met.passed = self
                     .met
                     .passed
@@ -392,7 +411,6 @@ impl<'a> Simulation<'a> {
         number: u32,
         chance: &mut Chance,
     ) -> Result<bool, Fail> {
-        let before = events(&self.locked.world);
         let phase = number / PHASE % 4;
         let is_late = chance.below(8) == 0;
         let guest = chance.below(u64::from(GUESTS)) as u8;
@@ -406,12 +424,11 @@ impl<'a> Simulation<'a> {
             5 | 6 => phase == 1 || self.device_turn(lane, is_late),
             _ => phase == 2 || self.reaper_turn(lane, is_late),
         };
-        Ok(is_right && self.went_alike(before) && self.ended.is_noted(&self.locked.notes))
+        Ok(is_right && self.ended.is_noted(&self.locked.notes))
     }
 
     // One turn of some worker, by chance; whether it was what it should be.
     fn workers_turn<R: Wait + Clock>(&mut self, rt: &R, chance: &mut Chance) -> Result<bool, Fail> {
-        let before = events(&self.locked.world);
         let guest = chance.below(u64::from(GUESTS)) as u8;
         let lane = chance.below(u64::from(LANES)) as u8;
         let is_right = match chance.below(6) {
@@ -419,7 +436,7 @@ impl<'a> Simulation<'a> {
             3 | 4 => self.device_turn(lane, true),
             _ => self.reaper_turn(lane, true),
         };
-        Ok(is_right && self.went_alike(before) && self.ended.is_noted(&self.locked.notes))
+        Ok(is_right && self.ended.is_noted(&self.locked.notes))
     }
 }
 
@@ -444,17 +461,9 @@ pub(crate) fn go_on(
 }
 
 // So many commands of a guest are taken in a world, where there are as many.
-fn take_in(world: &mut World, alloc: Global, guest: u8, lane: u8, count: u64) {
+fn take(world: &mut World, alloc: Global, guest: u8, lane: u8, count: u64) {
     for _ in 0..count {
         step(world, alloc, Event::Take(guest, 1, lane));
-    }
-}
-
-// Whose command a tag has that was taken and not planned; `None` where it has none.
-fn taken_by(world: &World, alloc: Global, lane: u8, tag: u8) -> Result<Option<u8>, NoMemory> {
-    match world.job(alloc, lane, tag)? {
-        Some(job) => Ok(Some(job.guest)),
-        None => Ok(None),
     }
 }
 
@@ -524,7 +533,7 @@ fn expect_met(rt: &impl Abort, simulation: &Simulation) {
 }
 
 #[test]
-fn workers_choose_as_at_the_start(rt: HostRuntime) -> Result<(), Fail> {
+fn workers_do_all_that_is_due(rt: HostRuntime) -> Result<(), Fail> {
     let givens = givens(&rt, rt.alloc(), &ONE)?;
     for seed in 1..=SIMULATIONS {
         simulate_one(&rt, rt.alloc(), &givens, seed)?;
@@ -577,14 +586,14 @@ fn simulate_apart<R: Abort + Wait + Clock>(
 }
 
 #[test]
-fn workers_choose_as_at_the_start_where_commands_take_several_tags(
+fn workers_do_all_that_is_due_where_commands_take_several_tags(
     rt: HostRuntime,
 ) -> Result<(), Fail> {
     simulate_apart(&rt, rt.alloc(), &FEW)
 }
 
 #[test]
-fn workers_choose_as_at_the_start_where_tags_are_short(rt: HostRuntime) -> Result<(), Fail> {
+fn workers_do_all_that_is_due_where_tags_are_short(rt: HostRuntime) -> Result<(), Fail> {
     simulate_apart(&rt, rt.alloc(), &MANY)
 }
 

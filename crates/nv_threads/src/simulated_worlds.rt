@@ -1,9 +1,8 @@
 //! The worlds that are simulated.
 
-use nv_mem::{GuestMap, Region};
+use nv_mem::{GuestMap, NoMemory, Region};
 use nv_model::Reply;
 use nv_model::limits::MOST_DESCRIPTORS;
-use nv_plan::Plan;
 use nv_world::{Extent, GuestSetup, Setup, World};
 use nv_world_model::{Event, Logged};
 use std::alloc::Global;
@@ -70,9 +69,17 @@ pub(crate) fn step(world: &mut World, alloc: Global, event: Event) -> Reply {
     world.step(alloc, event)
 }
 
-/// A plan is carried out in a world, whatever comes of it.
-pub(crate) fn submit(world: &mut World, plan: Plan) -> Reply {
-    world.submit_plan(plan)
+/// Whose command a tag has that was taken and not planned; `None` where it has none.
+pub(crate) fn taken_by(
+    world: &World,
+    alloc: Global,
+    lane: u8,
+    tag: u8,
+) -> Result<Option<u8>, NoMemory> {
+    match world.job(alloc, lane, tag)? {
+        Some(job) => Ok(Some(job.guest)),
+        None => Ok(None),
+    }
 }
 
 /// A world of guests with these extents at its start.

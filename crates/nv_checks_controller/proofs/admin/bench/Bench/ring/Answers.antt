@@ -1,5 +1,0 @@
-use Rattle.nv_mem.specs.GuestMap.{mapped}
-use Rattle.nv_checks_controller.proofs.admin.bench.Bench.ring.Goals as goal
-
-pub invariant_of-self : goal.invariant_of-self
-invariant_of-self c = (c.self.invariant.0, c.doorbell.ensures.in_place (mapped c.self.inside.map.regions) c.self.invariant.1)
