@@ -68,7 +68,13 @@ pub(crate) fn descriptor_bytes(kind: u8, addr: u64, len: u32) -> [u8; 16] {
 
 /// Stores bytes in a memory, as far as it goes.
 pub(crate) fn store(memory: &mut [u8], at: usize, bytes: &[u8]) {
-    for (place, byte) in memory.iter_mut().skip(at).zip(bytes.iter()) {
+    let Some(room) = memory.get_mut(at..) else {
+        return;
+    };
+    for (at, place) in room.iter_mut().enumerate() {
+        let Some(byte) = bytes.get(at) else {
+            return;
+        };
         *place = *byte;
     }
 }

@@ -1,6 +1,7 @@
 //! The check of the ranges of a Dataset Management.
 
 use crate::virtual_ns::namespace;
+use byteorder::{ByteOrder, LittleEndian};
 use nv_entry::{Status, StatusCode};
 use nv_judge::judge_ranges;
 use nv_model::limits::RANGE_SIZE;
@@ -10,9 +11,7 @@ use std::process::Abort;
 // The bytes of two ranges of Dataset Management.
 fn ranges(dwords: [u32; 8]) -> [u8; 32] {
     let mut bytes = [0; 32];
-    for (dword, out) in dwords.iter().zip(bytes.chunks_exact_mut(4)) {
-        out.copy_from_slice(&dword.to_le_bytes());
-    }
+    LittleEndian::write_u32_into(&dwords, &mut bytes);
     bytes
 }
 

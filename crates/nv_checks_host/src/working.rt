@@ -162,14 +162,13 @@ impl Shop {
 
     // The bytes at an address of a guest, 512 of them.
     fn bytes_at(&mut self, guest: u8, addr: u64) -> [u8; 512] {
-        let mut bytes = [0; 512];
         let event = Event::Guest(guest, Act::Load { addr, len: 512 });
         if let Ok(Reply::Bytes(found)) = self.desk.step(self.alloc, &event, Form::Plain) {
-            for (to, from) in bytes.iter_mut().zip(found.as_slice()) {
-                *to = *from;
+            if let Some(bytes) = found.as_slice().first_chunk::<512>() {
+                return *bytes;
             }
         }
-        bytes
+        [0; 512]
     }
 
     // Whether a guest's command was completed with success, in one of so many places of its queue.

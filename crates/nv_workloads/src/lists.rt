@@ -118,9 +118,8 @@ impl Lists {
         let discarding = self.array(true)?;
         self.store(DISCARDING, &discarding)?;
         let mut faulty = self.array(true)?;
-        let at = faulty.len().saturating_sub(4);
-        for (place, byte) in faulty.iter_mut().skip(at).zip(NO_KIND.to_le_bytes()) {
-            *place = byte;
+        if let Some(kind) = faulty.last_chunk_mut::<4>() {
+            *kind = NO_KIND.to_le_bytes();
         }
         self.store(FAULTY, &faulty)?;
         self.store_chain()?;

@@ -1,5 +1,6 @@
 //! Plans of one command, made again and again.
 
+use byteorder::{ByteOrder, LittleEndian};
 use nv_entry::Sqe;
 use nv_mem::{Bytes, GuestMap, NoMemory, Region};
 use nv_model::limits::MOST_DESCRIPTORS;
@@ -81,23 +82,23 @@ fn bytes_at(alloc: Global, addr: u64, len: usize) -> Result<Vec<u8>, NoMemory> {
 
 // Puts a number into two bytes.
 fn put(bytes: &mut [u8], at: usize, value: u16) {
-    for (place, byte) in bytes.iter_mut().skip(at).zip(value.to_le_bytes().iter()) {
-        *place = *byte;
+    if let Some(place) = bytes.get_mut(at..at.saturating_add(2)) {
+        if let Some(place) = place.first_chunk_mut::<2>() {
+            *place = value.to_le_bytes();
+        }
     }
 }
 
 // The command of that kind.
 fn command(kind: Kind) -> Sqe {
-    let mut bytes = [0; 64];
-    for (dword, value) in kind.dwords() {
-        for (place, byte) in bytes
-            .iter_mut()
-            .skip(dword.saturating_mul(4))
-            .zip(value.to_le_bytes().iter())
-        {
-            *place = *byte;
+    let mut dwords = [0; 16];
+    for (at, value) in kind.dwords() {
+        if let Some(dword) = dwords.get_mut(*at) {
+            *dword = *value;
         }
     }
+    let mut bytes = [0; 64];
+    LittleEndian::write_u32_into(&dwords, &mut bytes);
     Sqe::of(&bytes)
 }
 

@@ -205,9 +205,8 @@ impl Maker<'_> {
     fn long_list(&mut self, alloc: Global, list_at: u64, last: u32) -> Result<Transfer, NoMemory> {
         let mut list = Vec::new(alloc);
         self.scatter(&mut list, MOST_COMMAND_BYTES, MOST_LISTED, true)?;
-        let at = list.len().saturating_sub(4);
-        for (place, byte) in list.iter_mut().skip(at).zip(last.to_le_bytes()) {
-            *place = byte;
+        if let Some(kind) = list.last_chunk_mut::<4>() {
+            *kind = last.to_le_bytes();
         }
         let command = Command {
             operation: READ | SGL,

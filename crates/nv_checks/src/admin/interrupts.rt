@@ -62,12 +62,12 @@ impl Guest {
     /// Whether the vectors that are pending are those of the queues in which the phase tag says that a completion is new.
     fn agrees(&self) -> bool {
         let pending = self.bench.pending();
-        for (vector, watched) in pending.iter().zip(self.queues.iter()) {
-            if *vector != announced(&self.bench, watched) {
+        for (queue, watched) in self.queues.iter().enumerate() {
+            if pending.get(queue) != Some(&announced(&self.bench, watched)) {
                 return false;
             }
         }
-        true
+        pending.len() == self.queues.len()
     }
 
     /// Reads the next completion of a queue and acknowledges it; false where none is new.
@@ -287,8 +287,9 @@ fn pending_vectors_are_what_the_phase_tags_show(rt: HostRuntime) -> Result<(), F
         );
         assert!(rt; guest.turn(act, queue as u16 + 1, vector as u16) && guest.agrees());
         let pending = guest.bench.pending();
-        for (vector, count) in pending.iter().zip(times.iter_mut()) {
-            *count = count.wrapping_add(u32::from(vector.is_some()));
+        for (queue, count) in times.iter_mut().enumerate() {
+            let is_pending = matches!(pending.get(queue), Some(Some(_)));
+            *count = count.wrapping_add(u32::from(is_pending));
         }
     }
     // each queue's vector was pending often, and often not

@@ -120,11 +120,14 @@ impl Beside {
     // Whether each block is as it should be.
     fn is_same(&self) -> bool {
         let count = self.blocks.len();
-        for (block, (byte, mark)) in self.bytes.iter().zip(self.kept.iter()).enumerate() {
+        for (block, byte) in self.bytes.iter().enumerate() {
             if block >= count || block >= self.marks.len() {
                 return false;
             }
-            if self.blocks.block(block) != &[*byte; 512] || self.marks.get(block) != *mark {
+            if self.blocks.block(block) != &[*byte; 512] {
+                return false;
+            }
+            if self.kept.get(block) != Some(&self.marks.get(block)) {
                 return false;
             }
         }

@@ -4,6 +4,7 @@
 ghost use Rattle.std.specs.Prelude.{◌≡◌, IfOk};
 
 use crate::memory::{descriptor_bytes, map_of, part, store, whole_map};
+use byteorder::{ByteOrder, LittleEndian};
 use nv_entry::{Sqe, StatusCode};
 use nv_mem::{Bytes, GuestMap, NoMemory, Piece, Region};
 use nv_model::limits::MOST_DESCRIPTORS;
@@ -194,9 +195,7 @@ pub fn command(rt: &impl Abort, changes: &[(usize, u32)]) -> Sqe {
         dwords[place] = *dword;
     }
     let mut bytes = [0; 64];
-    for (dword, out) in dwords.iter().zip(bytes.chunks_exact_mut(4)) {
-        out.copy_from_slice(&dword.to_le_bytes());
-    }
+    LittleEndian::write_u32_into(&dwords, &mut bytes);
     Sqe::of(&bytes)
 }
 

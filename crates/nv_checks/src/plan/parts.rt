@@ -193,15 +193,23 @@ fn is_part(plan: &Plan, part: u8, told: &Told) -> bool {
         && lies_at(plan, part, told.start, told.blocks)
 }
 
+// Whether the first parts of a plan are these.
+fn are_parts(plan: &Plan, parts: &[Told]) -> bool {
+    for (at, told) in parts.iter().enumerate() {
+        if !is_part(plan, at as u8, told) {
+            return false;
+        }
+    }
+    true
+}
+
 // Whether a plan of that kind is these parts.
 fn has_parts(planned: &Planned, kind: PlanKind, parts: &[Told]) -> bool {
     match planned {
         Planned::Plan(plan) => {
             plan.kind() == kind
                 && usize::from(plan.parts()) == parts.len()
-                && (0..plan.parts())
-                    .zip(parts)
-                    .all(|(part, told)| is_part(plan, part, told))
+                && are_parts(plan, parts)
         }
         _ => false,
     }

@@ -28,12 +28,12 @@ pub fn has_part_ranges(plan: &Plan, part: u8, ranges: &[[u8; 16]]) -> bool {
         return false;
     }
     let told = plan.part_ranges(part);
-    plan.part_len(part) / 16 == ranges.len() as u64
-        && told.len() == ranges.len()
-        && told
-            .iter()
-            .zip(ranges)
-            .all(|(range, bytes)| range.bytes() == *bytes)
+    for (at, range) in told.iter().enumerate() {
+        if ranges.get(at) != Some(&range.bytes()) {
+            return false;
+        }
+    }
+    plan.part_len(part) / 16 == ranges.len() as u64 && told.len() == ranges.len()
 }
 
 // Whether a plan bounces these ranges.

@@ -113,8 +113,10 @@ const LIST_PAGE: u64 = 0x40_3000;
 // A transfer with a list of these entries.
 fn prps_of(prp1: u64, prp2: u64, entries: &[u64]) -> Prps {
     let mut list = [0; 32];
-    for (place, entry) in list.iter_mut().zip(entries.iter()) {
-        *place = *entry;
+    for (at, entry) in entries.iter().enumerate() {
+        if let Some(place) = list.get_mut(at) {
+            *place = *entry;
+        }
     }
     Prps {
         prp1,
