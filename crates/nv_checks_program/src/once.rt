@@ -9,28 +9,10 @@ use std::io::{self, ErrorKind, Read, Write};
 use std::process::{Abort, ExitCode};
 use std::test::Fail;
 
-const READ: &str =
-    "02400700010000000000000000000000000000000000000000300000000000000002000000000000050000000000000000000000000000000000000000000000";
-
-const READ_LINE: &str =
-    "opc=02 fuse=0 psdt=1 cid=0007 nsid=00000001 dptr=00300000000000000002000000000000 cdw10=00000005 cdw11=00000000 cdw12=00000000 cdw13=00000000 cdw14=00000000 cdw15=00000000\n";
-
-/// Every field another value, reserved bits set.
-const MIXED: &str =
-    "A1BFefbe04030201ffffffffffffffffffffffffffffffff00112233445566778899AABBCCDDEEFF1032547698BADCFE0100000000000080FFFFFFFF0f1e2d3c";
-
-const MIXED_LINE: &str =
-    "opc=a1 fuse=3 psdt=2 cid=beef nsid=01020304 dptr=00112233445566778899aabbccddeeff cdw10=76543210 cdw11=fedcba98 cdw12=00000001 cdw13=80000000 cdw14=ffffffff cdw15=3c2d1e0f\n";
-
 const DONE: &str = "00000000000000000100010007000100";
 
 const DONE_LINE: &str =
     "dw0=00000000 sqhd=0001 sqid=0001 cid=0007 p=1 sct=0 sc=00 crd=0 m=0 dnr=0\n";
-
-const FAILED: &str = "EFCDAB890000000034127856bc9A0BF5";
-
-const FAILED_LINE: &str =
-    "dw0=89abcdef sqhd=1234 sqid=5678 cid=9abc p=1 sct=2 sc=85 crd=3 m=1 dnr=1\n";
 
 /// What a command printed, and how it ended.
 #[derive(Drop)]
@@ -86,155 +68,8 @@ fn same<T: PartialEq + Debug>(rt: &impl Abort, case: &impl Debug, found: &T, wan
     assert_eq!(rt; found, want, "{case:?}");
 }
 
-fn expect(
-    rt: &(impl Abort + AllocGlobal),
-    command: Option<Command<'_>>,
-    text: &str,
-    status: ExitStatus,
-    output: &str,
-    faults: &str,
-) {
-    let Some(command) = command else {
-        assert!(rt; false, "no such entry");
-        return;
-    };
-    let run = run_on_flat(rt.alloc(), Ok(command), &mut text.as_bytes());
-    let case = (command, text);
-    same(rt, &case, &run.output.as_slice(), &output.as_bytes());
-    same(rt, &case, &run.faults.as_slice(), &faults.as_bytes());
-    same(rt, &case, &run.status, &status);
-}
-
-/// Kinds of entries, digits, and what they are decoded to.
-const DECODED: [(&str, &str, &str); 4] = [
-    ("sqe", READ, READ_LINE),
-    ("sqe", MIXED, MIXED_LINE),
-    ("cqe", DONE, DONE_LINE),
-    ("cqe", FAILED, FAILED_LINE),
-];
-
-fn expect_decoded(rt: &(impl Abort + AllocGlobal), rows: &[(&str, &str, &str)]) {
-    for (kind, digits, line) in rows {
-        let command = decode(kind, digits);
-        expect(rt, command, "", ExitStatus::Success, line, "");
-    }
-}
-
-#[test]
-fn decodes(rt: HostRuntime) {
-    expect_decoded(&rt, &DECODED);
-}
-
-/// Kinds of entries, and what spells none of them.
-const BAD_BYTES: [(&str, &str); 15] = [
-    ("sqe", ""),
-    ("cqe", ""),
-    ("cqe", " "),
-    ("sqe", "0"),
-    ("sqe", DONE),
-    ("cqe", READ),
-    ("cqe", "0000000000000000010001000700010"),
-    ("cqe", "000000000000000001000100070001000"),
-    ("cqe", "000000000000000001000100070001"),
-    ("cqe", "0000000000000000010001000700010000"),
-    ("cqe", "0x000000000000000100010007000100"),
-    ("cqe", "+0000000000000000100010007000100"),
-    ("cqe", "0000000000000000010001000700010g"),
-    ("cqe", "00000000 00000000100010007000100"),
-    ("cqe", "000000000000000001000100070001é"),
-];
-
-fn expect_bad_bytes(rt: &(impl Abort + AllocGlobal), rows: &[(&str, &str)]) {
-    let fault = "line 1: bad bytes\n";
-    for (kind, digits) in rows {
-        let command = decode(kind, digits);
-        expect(rt, command, "", ExitStatus::ScriptFault, "", fault);
-    }
-}
-
-#[test]
-fn refuses_bad_bytes(rt: HostRuntime) {
-    expect_bad_bytes(&rt, &BAD_BYTES);
-}
-
 const FIRST_RUN: &str =
     "memory 0x10000\nblocks 64\npaint 5 0xab\ncmd 02400700010000000000000000000000000000000000000000300000000000000002000000000000050000000000000000000000000000000000000000000000\ndump 0x3000 4\n";
-
-const WRITE_RUN: &str = "memory 0x10000\nblocks 64\nfill 0x3000 512 0x11\n\
-     cmd 01400700010000000000000000000000000000000000000000300000000000000002000000000000050000000000000000000000000000000000000000000000\ndump 0x3000 0\ndump 0x31fe 4";
-
-/// Scripts and what they print.
-const SCRIPTS: [(&str, &str); 4] = [
-    (FIRST_RUN, "00000000000000000100010007000100\nabababab\n"),
-    (WRITE_RUN, "00000000000000000100010007000100\n-\n11110000\n"),
-    ("memory 4096\nblocks 1", ""),
-    (
-        "blocks 1\nmemory 4096\nstore 0xffe a1B2\ndump 0xffd 3\n",
-        "00a1b2\n",
-    ),
-];
-
-fn expect_printed(rt: &(impl Abort + AllocGlobal), rows: &[(&str, &str)]) {
-    for (script, printed) in rows {
-        let once = Some(Command::Once);
-        expect(rt, once, script, ExitStatus::Success, printed, "");
-    }
-}
-
-#[test]
-fn runs_scripts(rt: HostRuntime) {
-    expect_printed(&rt, &SCRIPTS);
-}
-
-#[test]
-fn prints_blocks(rt: HostRuntime) -> Result<(), Fail> {
-    let twos = "2".repeat(rt.alloc(), 1024)?;
-    let zeros = "0".repeat(rt.alloc(), 1024)?;
-    let printed = format!(in rt.alloc(); "{twos}\n{zeros}\n")?;
-    let script = "memory 4096\nblocks 2\npaint 1 0x22\nblock 1\nblock 0";
-    expect_printed(&rt, &[(script, &printed)]);
-    Ok(())
-}
-
-/// Scripts and their faults: each of the seven kinds, and a beginning that would have printed.
-const FAULTY: [(&str, &str); 9] = [
-    ("", "line 1: out of place\n"),
-    (
-        "memory 0x10000\nblocks 64\ndump 0xfffe 4",
-        "line 3: out of range\n",
-    ),
-    ("memory 0x10000\nblocks 64\ncmd 00", "line 3: bad bytes\n"),
-    (
-        "memory 0x10000\nblocks 64\ndump 0 1\nhullo",
-        "line 4: unknown word\n",
-    ),
-    ("memory 0x10001\nblocks 64", "line 1: bad number\n"),
-    (
-        "memory 4096\nblocks 1\ndump 0 1\nstore 0",
-        "line 4: missing word\n",
-    ),
-    (
-        "memory 4096\nblocks 1\nblock 0\nblock 0 0",
-        "line 4: too many words\n",
-    ),
-    ("memory 4096\nblock", "line 2: missing word\n"),
-    (
-        "memory 4096\nblocks 1\ntake 0 0 0",
-        "line 3: out of place\n",
-    ),
-];
-
-fn expect_faults(rt: &(impl Abort + AllocGlobal), rows: &[(&str, &str)]) {
-    for (script, fault) in rows {
-        let once = Some(Command::Once);
-        expect(rt, once, script, ExitStatus::ScriptFault, "", fault);
-    }
-}
-
-#[test]
-fn tells_the_first_faulty_line(rt: HostRuntime) {
-    expect_faults(&rt, &FAULTY);
-}
 
 /// A reader that gives these bytes, and then fails.
 #[derive(Drop)]

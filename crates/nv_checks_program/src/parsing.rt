@@ -1,7 +1,6 @@
 //! The scripts of `replay` and `run`, and a parse for which there was no memory.
 
 mod digits;
-mod many;
 mod refusals;
 mod replay;
 mod run;
