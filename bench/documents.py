@@ -245,7 +245,7 @@ def check_names(crates):
         for target in re.findall(r"\]\(([^)#\s]+)[^)]*\)", text):
             if "://" not in target and not os.path.exists(os.path.join(here, target)):
                 yield f"{path}: a link to {target}, which is not there"
-        for name in re.findall(r"`((?:docs|bench|examples|\.ci)/[\w./-]*)", text):
+        for name in re.findall(r"`((?:docs|bench|examples|tests|\.ci)/[\w./-]*)", text):
             if not os.path.exists(os.path.join(ROOT, name)):
                 yield f"{path}: {name} is not there"
         for crate, file in re.findall(r"`(nv_\w+|nvmed)/((?:specs|src|proofs)(?:/\w+)*)", text):
@@ -259,7 +259,7 @@ def check_names(crates):
 
 def sources():
     """The text of each file of code, definitions, proofs and scripts."""
-    for pattern in ("nvmed", "crates.txt", "crates/**/*", "bench/**/*", "examples/**/*"):
+    for pattern in ("nvmed", "crates.txt", "crates/**/*", "bench/**/*", "examples/**/*", "tests/**/*"):
         for path in glob.glob(os.path.join(ROOT, pattern), recursive=True):
             if os.path.isfile(path) and not re.search(r"/out/|__pycache__", path):
                 with open(path, encoding="utf-8", errors="replace") as file:
