@@ -28,7 +28,7 @@ TRIALS = {
     "MORE_LISTS": (definitions.MORE_LISTS, ALL),
     "MORE_WORLD": (definitions.MORE_WORLD, ALL[1:]),
     "ONCE": (bugs.ONCE, [("nv_commands", ["check"]), *PROGRAM]),
-    "WORKERS": (bugs.WORKERS, [("nv_threads", ["check"]), ("nv_checks_threads", ["try", "--test"])]),
+    "WORKERS": (bugs.WORKERS, [("nv_threads", ["check"]), ("nv_checks_program", ["try", "--test"])]),
     "PRINT": (bugs.PRINT, [("nv_print", ["check"]), *PROGRAM]),
     "RUN_SCRIPT": (bugs.RUN_SCRIPT, [("nv_run_script", ["check"]), *PROGRAM]),
     "ONCE_SCRIPT_MORE": (bugs.ONCE_SCRIPT_MORE, [("nv_once_script", ["check"]), *PROGRAM]),

@@ -6,7 +6,7 @@
 //!
 //! It is proved that the bytes of an entry are those of its dwords, the lowest byte first; that an entry has the data pointer and the dwords of its
 //! fields, and namespace 1; that an act is its deed's; that extents are the spans', that a guest has the regions and the limit that it is to have,
-//! and the set-up the guests; and that a number of [`Random`] is below its bound. It is tested by its use alone, in `nv_checks_threads`
+//! and the set-up the guests; and that a number of [`Random`] is below its bound. It is tested by its use alone, in `nv_checks_program`
 //! and `nv_checks_world`: that the bring-up makes the queues that it names, and which numbers come.
 //!
 //! It uses `nv_mediator`, whose set-ups it makes, and no crate of tests.
