@@ -87,15 +87,24 @@ impl Bench {
         true
     }
 
-    /// Whether these bytes, 64 at most, are in memory from a guest address on.
+    /// Whether these bytes are in memory from a guest address on.
     pub(crate) fn shows(&self, addr: u64, bytes: &[u8]) -> bool {
-        let len = bytes.len();
-        if len > 64 || !self.map.holds(addr, len as u64) {
-            return false;
+        for (at, byte) in bytes.iter().enumerate() {
+            if self.byte(addr.wrapping_add(at as u64)) != Some(*byte) {
+                return false;
+            }
         }
-        let mut found = [0; 64];
-        nv_bounce::load(addr, &self.map, &self.host, &mut found[..len]);
-        &found[..len] == bytes
+        true
+    }
+
+    // The byte in memory at a guest address; none where it is not mapped.
+    fn byte(&self, addr: u64) -> Option<u8> {
+        if !self.map.holds(addr, 1) {
+            return None;
+        }
+        let mut bytes = [0; 1];
+        nv_bounce::load(addr, &self.map, &self.host, &mut bytes);
+        Some(bytes[0])
     }
 
     /// The dword in memory at a guest address; none where it is not mapped.
@@ -151,10 +160,18 @@ impl Bench {
     /// Enables the controller with admin queues of these sizes, counted from 0, as AQA has them: submissions at 10000h, completions
     /// at 11000h.
     pub(crate) fn enable(&mut self, sizes: u32) -> bool {
-        self.write(0x24, sizes)
-            && self.write(0x28, 0x1_0000)
-            && self.write(0x30, 0x1_1000)
-            && self.write(0x14, 0x0046_0001)
+        let registers = [
+            (0x24, sizes),
+            (0x28, 0x1_0000),
+            (0x30, 0x1_1000),
+            (0x14, 0x0046_0001),
+        ];
+        for (offset, value) in registers {
+            if !self.write(offset, value) {
+                return false;
+            }
+        }
+        true
     }
 
     /// Enters commands into the admin queue from slot `at` on, and rings the doorbell with the tail after them.

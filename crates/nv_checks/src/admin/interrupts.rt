@@ -72,18 +72,18 @@ impl Guest {
 
     /// Reads the next completion of a queue and acknowledges it; false where none is new.
     fn read(&mut self, queue: u16) -> bool {
-        let Some(Some(watched)) = self.queues.get_mut(usize::from(queue)) else {
+        let Some(Some(watched)) = self.queues.get(usize::from(queue)) else {
             return false;
         };
         if !is_new(&self.bench, watched) {
             return false;
         }
-        watched.head = next(watched.head, watched.size);
-        if watched.head == 0 {
-            watched.phase = !watched.phase;
+        let after = gone_on(*watched);
+        if let Some(place) = self.queues.get_mut(usize::from(queue)) {
+            *place = Some(after);
         }
         self.bench
-            .ring(0x1004 + 8 * u32::from(queue), u32::from(watched.head))
+            .ring(0x1004 + 8 * u32::from(queue), u32::from(after.head))
     }
 
     /// Reads and acknowledges all that is new.
@@ -200,6 +200,21 @@ impl Guest {
             }
             _ => self.create(queue, act % 3 != 0, vector),
         }
+    }
+}
+
+/// The queue after its next completion was read.
+fn gone_on(watched: Watched) -> Watched {
+    let head = next(watched.head, watched.size);
+    let phase = if head == 0 {
+        !watched.phase
+    } else {
+        watched.phase
+    };
+    Watched {
+        head,
+        phase,
+        ..watched
     }
 }
 
