@@ -3,8 +3,8 @@
 case wants. tests/README.md has the format of a case. Where no PROGRAM is given, it is crates/nvmed/out/nvmed, which `rt ci` leaves there.
 
 Cases run side by side, one a processor, each run of the program for 20 seconds at most, or for LIMIT seconds where the environment has that: a
-program that `./nvmed try` built without proofs (crates/nvmed/out/nvmed.tried) needs 900. A line is printed for each case that fails, with the
-first line that differs. The last line is 'N passed, M failed', and the status is 0 where M is 0."""
+program that `./nvmed try` built without proofs (crates/nvmed/out/nvmed.tried) needs minutes for the longest. A line is printed for each case that
+fails, with the first line that differs. The last line is 'N passed, M failed', and the status is 0 where M is 0."""
 import concurrent.futures
 import dataclasses
 import glob

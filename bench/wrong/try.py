@@ -4,7 +4,7 @@ and puts back; so run it in a clone. LIST is LISTS, WORLD, MORE_LISTS or MORE_WO
 ONCE_SCRIPT_MORE or REPLAY_SCRIPT (bugs.py; at_once.py asks the proofs alone, and of a whole list in one check).
 
 A definition is tried against the computed examples, lowest crate first; a bug against the proofs of its crate and, where these let it
-through, the tests that run it, the cases of tests/ among them. Prints of each who refused it, or THROUGH, and the seconds that it took."""
+through, the tests that run it. Prints of each who refused it, or THROUGH, and the seconds that it took."""
 import os
 import re
 import subprocess
@@ -17,30 +17,26 @@ import definitions
 ROOT = os.path.dirname(os.path.dirname(os.path.dirname(os.path.abspath(__file__))))
 EXAMPLES = [("nv_model", ["--only", "rows"]), ("nv_world_model", ["--only", "rows"]), ("nv_examples", [])]
 ALL = [(crate, ["check", *only]) for crate, only in EXAMPLES]
-# the cases of tests/, on the program as it is without proofs, which is slow
-CASES = "./nvmed try decode cqe 00000000000000000000000000000000 && LIMIT=900 bench/scripts.py crates/nvmed/out/nvmed.tried"
-# the tests of what the program does, the cases last
-PROGRAM = [("nv_checks_program", ["try", "--test"]), ("nvmed", [CASES])]
-# each list, and the commands that it goes through: a crate with the words for rt, or with CASES
+# each list, and the commands that it goes through: a crate with the words for rt
 TRIALS = {
     "LISTS": (definitions.LISTS, ALL),
     "WORLD": (definitions.WORLD, ALL[1:]),
     "MORE_LISTS": (definitions.MORE_LISTS, ALL),
     "MORE_WORLD": (definitions.MORE_WORLD, ALL[1:]),
-    "ONCE": (bugs.ONCE, [("nv_commands", ["check"]), *PROGRAM]),
+    "ONCE": (bugs.ONCE, [("nv_commands", ["check"]), ("nv_checks_program", ["try", "--test"])]),
     "WORKERS": (bugs.WORKERS, [("nv_threads", ["check"]), ("nv_checks_program", ["try", "--test"])]),
-    "PRINT": (bugs.PRINT, [("nv_print", ["check"]), *PROGRAM]),
-    "RUN_SCRIPT": (bugs.RUN_SCRIPT, [("nv_run_script", ["check"]), *PROGRAM]),
-    "ONCE_SCRIPT_MORE": (bugs.ONCE_SCRIPT_MORE, [("nv_once_script", ["check"]), *PROGRAM]),
-    "REPLAY_SCRIPT": (bugs.REPLAY_SCRIPT, [("nv_replay_script", ["check"]), *PROGRAM]),
+    "PRINT": (bugs.PRINT, [("nv_print", ["check"]), ("nv_checks_program", ["try", "--test"])]),
+    "RUN_SCRIPT": (bugs.RUN_SCRIPT, [("nv_run_script", ["check"]), ("nv_checks_program", ["try", "--test"])]),
+    "ONCE_SCRIPT_MORE": (bugs.ONCE_SCRIPT_MORE, [("nv_once_script", ["check"]), ("nv_checks_program", ["try", "--test"])]),
+    "REPLAY_SCRIPT": (bugs.REPLAY_SCRIPT, [("nv_replay_script", ["check"]), ("nv_checks_program", ["try", "--test"])]),
 }
 
 
 def run(crate, words):
     """Whether the crate passes, and what was said."""
-    folder, command = (ROOT, ["bash", "-c", CASES]) if words == [CASES] else (os.path.join(ROOT, "crates", crate), ["rt", *words])
+    folder = os.path.join(ROOT, "crates", crate)
     try:
-        done = subprocess.run(command, cwd=folder, capture_output=True, text=True, timeout=1200)
+        done = subprocess.run(["rt", *words], cwd=folder, capture_output=True, text=True, timeout=1200)
     except subprocess.TimeoutExpired:
         return False, "no answer in 1200 seconds"
     return done.returncode == 0, done.stdout + done.stderr
