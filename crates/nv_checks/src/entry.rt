@@ -1,5 +1,6 @@
 //! Entries written out by hand from the layouts, read and written.
 
+use byteorder::{BigEndian, ByteOrder};
 use nv_entry::{
     AdminOpcode, Cqe, DataPointer, Descriptor, DescriptorType, IoOpcode, Range, Sqe, Status,
     StatusCode,
@@ -113,15 +114,30 @@ const SUBMISSIONS: [Submission; 4] = [
     },
 ];
 
+// The upper half of a number, and the lower one.
+fn upper(number: u128) -> u64 {
+    (number >> 64) as u64
+}
+
+fn lower(number: u128) -> u64 {
+    (number & 0xffff_ffff_ffff_ffff) as u64
+}
+
 // The bytes with these digits.
 fn bytes_of(digits: (u64, u128, u128, u128, u64)) -> [u8; 64] {
     let (head, metadata, pointer, dwords, rest) = digits;
+    let words = [
+        head,
+        upper(metadata),
+        lower(metadata),
+        upper(pointer),
+        lower(pointer),
+        upper(dwords),
+        lower(dwords),
+        rest,
+    ];
     let mut bytes = [0; 64];
-    bytes[..8].copy_from_slice(&head.to_be_bytes());
-    bytes[8..24].copy_from_slice(&metadata.to_be_bytes());
-    bytes[24..40].copy_from_slice(&pointer.to_be_bytes());
-    bytes[40..56].copy_from_slice(&dwords.to_be_bytes());
-    bytes[56..].copy_from_slice(&rest.to_be_bytes());
+    BigEndian::write_u64_into(&words, &mut bytes);
     bytes
 }
 

@@ -2,6 +2,7 @@
 
 use nv_disk::{Blocks, Marks};
 use std::alloc::{AllocError, Global};
+use std::process::Abort;
 use std::test::Fail;
 
 /// How many blocks the disks of these tests have.
@@ -241,6 +242,13 @@ fn clear(blocks: &mut Blocks, start: usize, count: usize) {
     }
 }
 
+// From each of these blocks on, of so many, as many lie in a row.
+fn expect_rows(rt: &impl Abort, blocks: &Blocks, rows: &[(usize, usize, usize)]) {
+    for (first, count, want) in rows {
+        assert!(rt; row(blocks, *first, *count) == *want, "{first}");
+    }
+}
+
 #[test]
 fn few_blocks_that_are_cleared_lie_in_a_row_with_those_around_them(
     rt: HostRuntime,
@@ -251,11 +259,11 @@ fn few_blocks_that_are_cleared_lie_in_a_row_with_those_around_them(
     write_all(&mut blocks, [20usize, 21, 22, 23]);
     clear(&mut blocks, 10, 1);
     clear(&mut blocks, 14, 7);
-    assert!(rt; row(&blocks, 8, 16) == 16);
+    expect_rows(&rt, &blocks, &[(8, 16, 16)]);
     clear(&mut blocks, 8, 8);
-    assert!(rt; row(&blocks, 8, 16) == 8 && row(&blocks, 16, 8) == 8);
+    expect_rows(&rt, &blocks, &[(8, 16, 8), (16, 8, 8)]);
     clear(&mut blocks, 9, 1);
-    assert!(rt; row(&blocks, 9, 1) == 1 && row(&blocks, 8, 8) == 1 && row(&blocks, 10, 6) == 6);
+    expect_rows(&rt, &blocks, &[(9, 1, 1), (8, 8, 1), (10, 6, 6)]);
     Ok(())
 }
 

@@ -172,8 +172,9 @@ fn is_as_expected(rt: &impl Abort, alloc: Global, list: &Limited) -> bool {
         return false;
     }
     let sqe = command(rt, list.changes);
-    comes_to(&driven(rt, alloc, &guest, sqe, limit), list)
-        && comes_to(&fed(rt, alloc, &guest, sqe, limit), list)
+    let by_driven = comes_to(&driven(rt, alloc, &guest, sqe, limit), list);
+    let by_fed = comes_to(&fed(rt, alloc, &guest, sqe, limit), list);
+    by_driven && by_fed
 }
 
 // Whether that comes after as many wants.
