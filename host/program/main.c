@@ -5,6 +5,7 @@
 #include <stdio.h>
 #include <stdlib.h>
 #include <string.h>
+#include <sys/stat.h>
 #include <sys/time.h>
 
 #include "clock.h"
@@ -174,6 +175,7 @@ static int run(host *h) {
 
 static const char help[] =
     "nvmed-host [--statistics] CONFIGURATION\n"
+    "nvmed-host --join SOCKET FILE WORD..\n"
     "\n"
     "Virtual machines share an NVMe drive through a proved mediator. The configuration has plain lines:\n"
     "\n"
@@ -188,12 +190,24 @@ static const char help[] =
     "  listen G PATH, or start G WORD..\n"
     "\n"
     "With --statistics, a line a second says what the drive was given: of each guest its Reads, Writes, Compares and Write Zeroes, and their bytes.\n"
+    "The second form becomes a QEMU with these words, for a guest that listens on the socket and has that file for its memory.\n"
     "Status: 0 where all guests ended or a signal ended it, 1 where it could not begin, 2 for wrong words, 3 where the drive failed.\n";
+
+/* Becomes a guest's QEMU: the socket, the file of its memory, and QEMU's words. It returns only where that failed. */
+static int join(char *const *words) {
+    struct stat about;
+    reason r = {""};
+    if (stat(words[1], &about)) refuse(&r, "%.200s: %s", words[1], strerror(errno));
+    else peer_join(words[0], words + 2, &(peer_memory){words[1], (uint64_t)about.st_size}, &r);
+    fprintf(stderr, "nvmed-host: %s\n", r.text);
+    return FAILED;
+}
 
 int main(int argc, char **argv) {
     static host h = {.area = {.fd = -1}};
     reason r;
     if (argc == 2 && strcmp(argv[1], "--help") == 0) return fputs(help, stdout) < 0;
+    if (argc >= 5 && strcmp(argv[1], "--join") == 0) return join(argv + 2);
     bool counting = argc == 3 && strcmp(argv[1], "--statistics") == 0;
     if (argc != 2 + counting || argv[argc - 1][0] == '-') {
         fputs("nvmed-host: the file of the configuration is wanted, with --statistics before it or not; or --help\n", stderr);
