@@ -15,9 +15,11 @@
 set -euo pipefail
 export LC_ALL=C
 top=$(dirname "$(dirname "$(readlink -f "$0")")")
+# shellcheck disable=SC2034
 cache=${VM_CACHE:-${XDG_CACHE_HOME:-$HOME/.cache}/nvmed-vm}
 # KVM=1 takes KVM, which is of no use where it is nested
 accelerator=tcg
+# shellcheck disable=SC2034
 [[ -z ${KVM:-} ]] || accelerator=kvm
 # of a run, in seconds
 limit=600
