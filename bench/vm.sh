@@ -6,9 +6,11 @@
 #                             controller meanwhile. Then all is started again, and the file systems are as they were. Each guest's blocks stand in
 #                             the drive's image where its extents say, and the blocks that are no guest's have not changed
 #     bench/vm.sh drive       the same, and the drive is the NVMe controller of another QEMU, which is started again, too
+#     bench/vm.sh faults      a guest is killed in the middle of its reads and writes ten times, and comes back each time, beside one that goes on; QEMU's
+#                             controller stops answering; it has a block that cannot be read; 1,000,000 rounds of random input for transport and configuration
 #     bench/vm.sh firmware    SeaBIOS boots a boot sector from the shared drive, two guests at once, each its own; EDK2 finds it and reads a file
 #
-# They need Debian's qemu-system-x86; linux and drive busybox-static, nvme-cli, fio, e2fsprogs, cpio and a kernel, which comes by apt-get download;
+# They need Debian's qemu-system-x86; all but firmware busybox-static, nvme-cli, fio, e2fsprogs, cpio and a kernel, which comes by apt-get download;
 # firmware ovmf, mtools and dosfstools. What is missing is installed, and named. What is unpacked is kept in VM_CACHE (else ~/.cache/nvmed-vm). The library
 # is taken from LIBRARY, as by bench/c.sh, or built. Once that is there, each run ends by itself within ten minutes. The last line is 'N passed,
 # M failed', and the status is 0 where M is 0.
@@ -33,7 +35,7 @@ stop() {
     exit 1
 }
 
-[[ $# == 1 && $1 =~ ^(linux|drive|firmware)$ ]] || {
+[[ $# == 1 && $1 =~ ^(linux|drive|faults|firmware)$ ]] || {
     sed -n 's/^#     //p' "$0" >&2
     exit 2
 }
@@ -75,15 +77,29 @@ make_host() {
     "$top/host/build" "$room/library" > "$room/built" 2>&1 || stop "the host program was not built: $(tail -n 1 "$room/built")"
 }
 
-# Runs the host program on a configuration until all guests have switched off. What it reports is in $room/host.
-host() {
-    local status=0 left=$((limit > SECONDS ? limit - SECONDS : 1))
-    timeout "$left" "$top/host/out/nvmed-host" "$1" 2> "$room/host" || status=$?
-    [[ $status == 0 ]] || {
+# Starts the host program on a configuration, beside this script, which a signal then ends at once. What it reports is in $room/host.
+begin_host() {
+    rm -f "$room"/serial.*
+    timeout $((limit > SECONDS ? limit - SECONDS : 1)) "$top/host/out/nvmed-host" "$1" 2> "$room/host" &
+    host=$!
+    started+=("$host")
+}
+
+# Waits for its end, and reports whether it had this status.
+host_ended() {
+    local status=0
+    wait "$host" || status=$?
+    [[ $status == "$1" ]] || {
         cat "$room/host"
         echo "nvmed-host ended with status $status"
         return 1
     }
+}
+
+# Runs it until all guests have switched off.
+host() {
+    begin_host "$1"
+    host_ended 0
 }
 
 # Whether a guest's serial port has a line, which is all of it.
