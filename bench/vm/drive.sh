@@ -10,7 +10,8 @@ drive=
 
 end_drive() {
     [[ -n $drive ]] || return 0
-    kill -KILL "$drive"
+    kill -TERM "$drive"
+    kill -CONT "$drive"
     wait "$drive" || true
     drive=
 }
