@@ -5,12 +5,13 @@
 # archive for memory. It links with the C library alone, and its only global names are the functions that nvmed.h declares.
 #
 # The programs are built against a copy that is installed in a folder of this run, with the words of pkg-config: host.c and hosting.c of examples/, c.c
-# and serve.c of bench/wrong/ in C11 and as C++17, examples/host.cc in C++17, examples/host.rs in Rust, with warnings as errors. A check is one of these programs in one of the
-# languages, run once: what it prints must be its .expected file, and under valgrind there must be no error and no leak. Further checks are the C
-# programs with sanitizers of addresses and of undefined behaviour, examples/host.c with the C library alone beside functions that have names of the
-# toolchain's archive, and two of the installation. Each check that fails is named, and what could not be run on this machine is named as left out:
-# without clang, cc and c++ are taken, and without rustc, valgrind or sanitizers their checks are left out. Without pkg-config the copy is named by its
-# paths. The last line is 'N passed, M failed', and the status is 0 where M is 0.
+# and serve.c of bench/wrong/ in C11 and as C++17, examples/threads.c in C11, examples/host.cc in C++17, examples/host.rs in Rust, with warnings as
+# errors. A check is one of these programs in one of the languages, run once: what it prints must be its .expected file, and under valgrind there must be
+# no error and no leak. Further checks are the C programs with sanitizers of addresses and of undefined behaviour, that with threads with
+# ThreadSanitizer, too, examples/host.c with the C library alone beside functions that have names of the toolchain's archive, and two of the
+# installation. Each check that fails is named, and what could not be run on this machine is named as left out: without clang, cc and c++ are taken, and
+# without rustc, valgrind or sanitizers their checks are left out. Without pkg-config the copy is named by its paths. The last line is 'N passed, M
+# failed', and the status is 0 where M is 0.
 #
 #     bench/c.sh                     builds the library by rt lib, which proves what is not proved yet, and does all of the above
 #     bench/c.sh install PREFIX      installs it below PREFIX, or below DESTDIR and PREFIX where DESTDIR is set, and runs nothing
@@ -28,6 +29,7 @@ files=(lib/libnvmed.a include/nvmed.h lib/pkgconfig/nvmed.pc)
 limit=120
 warnings=(-Wall -Wextra -Werror -O1 -gdwarf-4)
 sanitizers=(-fsanitize=address -fsanitize=undefined -fno-sanitize-recover=all)
+race_sanitizer=(-fsanitize=thread)
 passed=0
 failed=0
 
@@ -190,12 +192,12 @@ prints() {
     diff "$1" "$room/out" && [[ $status == 0 ]]
 }
 
-# The checks of a program in a language: its file, the file that has what it must print, and the language.
+# The checks of a program in a language: its file, the file that has what it must print, the language, and further words for the compiler.
 check_program() {
     local program=$room/${1##*/}-$3 valgrind=(valgrind --quiet --leak-check=full --show-leak-kinds=all --error-exitcode=9)
     # what Rust's own runtime keeps until the end is no leak
     [[ $3 != rust ]] || valgrind+=(--show-leak-kinds=definite --errors-for-leak-kinds=definite)
-    if ! build "$top/$1" "$3" "$program"; then
+    if ! build "$top/$1" "$3" "$program" "${@:4}"; then
         failed=$((failed + 1))
         say "FAILED: $1 was not built by the compiler of $3"
         return
@@ -206,16 +208,23 @@ check_program() {
     fi
 }
 
-# Whether a compiler of C builds programs with sanitizers, and they run here.
-can_sanitize() {
-    command -v "$1" > /dev/null || return 1
-    echo 'int main(void) { return 0; }' | "$1" -x c - "${sanitizers[@]}" -o "$room/empty" 2> /dev/null && "$room/empty" 2> /dev/null
+# Prints the first compiler of C that builds programs with these sanitizers, if they run here.
+sanitizing() {
+    local it
+    for it in clang gcc cc; do
+        command -v "$it" > /dev/null || continue
+        echo 'int main(void) { return 0; }' | "$it" -x c - "$@" -o "$room/empty" 2> /dev/null || continue
+        if "$room/empty" 2> /dev/null; then
+            echo "$it"
+            return
+        fi
+    done
 }
 
-# Whether a program in C prints what it must with sanitizers: its file, the file that has what it must print, and the compiler. What there is no memory
-# for is refused, as by the C library; leaks are for valgrind.
+# Whether a program in C prints what it must with sanitizers: its file, the file that has what it must print, the compiler, and the words for it. What
+# there is no memory for is refused, as by the C library; leaks are for valgrind.
 sanitized() {
-    "$3" -std=c11 "${warnings[@]}" "${sanitizers[@]}" "${flags[@]}" "$top/$1" "${libs[@]}" -o "$room/sanitized" || return 1
+    "$3" -std=c11 "${warnings[@]}" "${@:4}" "${flags[@]}" "$top/$1" "${libs[@]}" -o "$room/sanitized" || return 1
     ASAN_OPTIONS=allocator_may_return_null=1:detect_leaks=0 prints "$top/$2" "$room/sanitized"
 }
 
@@ -275,25 +284,29 @@ for language in c cxx rust; do
             check_program bench/wrong/c.c bench/wrong/c.expected "$language"
             check_program bench/wrong/serve.c bench/wrong/serve.expected "$language"
             ;;&
-        c) check "examples/host.c with the C library alone" is_alone ;;
+        c)
+            check_program examples/threads.c examples/threads.expected c -pthread
+            check "examples/host.c with the C library alone" is_alone
+            ;;
         cxx) check_program examples/host.cc examples/host.cc.expected cxx ;;
         rust) check_program examples/host.rs examples/host.rs.expected rust ;;
     esac
 done
-sanitizing=
-for it in clang gcc cc; do
-    if can_sanitize "$it"; then
-        sanitizing=$it
-        break
-    fi
-done
-if [[ -n $sanitizing ]]; then
-    check "examples/host.c with sanitizers" sanitized examples/host.c examples/host.expected "$sanitizing"
-    check "examples/hosting.c with sanitizers" sanitized examples/hosting.c examples/hosting.expected "$sanitizing"
-    check "bench/wrong/c.c with sanitizers" sanitized bench/wrong/c.c bench/wrong/c.expected "$sanitizing"
-    check "bench/wrong/serve.c with sanitizers" sanitized bench/wrong/serve.c bench/wrong/serve.expected "$sanitizing"
+it=$(sanitizing "${sanitizers[@]}")
+if [[ -n $it ]]; then
+    check "examples/host.c with sanitizers" sanitized examples/host.c examples/host.expected "$it" "${sanitizers[@]}"
+    check "examples/hosting.c with sanitizers" sanitized examples/hosting.c examples/hosting.expected "$it" "${sanitizers[@]}"
+    check "examples/threads.c with sanitizers" sanitized examples/threads.c examples/threads.expected "$it" "${sanitizers[@]}" -pthread
+    check "bench/wrong/c.c with sanitizers" sanitized bench/wrong/c.c bench/wrong/c.expected "$it" "${sanitizers[@]}"
+    check "bench/wrong/serve.c with sanitizers" sanitized bench/wrong/serve.c bench/wrong/serve.expected "$it" "${sanitizers[@]}"
 else
     say "no compiler of C has sanitizers: left out are the checks with them"
+fi
+it=$(sanitizing "${race_sanitizer[@]}")
+if [[ -n $it ]]; then
+    check "examples/threads.c with ThreadSanitizer" sanitized examples/threads.c examples/threads.expected "$it" "${race_sanitizer[@]}" -pthread
+else
+    say "no compiler of C has ThreadSanitizer: left out is the check with it"
 fi
 echo "$passed passed, $failed failed"
 [[ $failed == 0 ]]

@@ -259,7 +259,7 @@ def check_names(crates):
 
 def sources():
     """The text of each file of code, definitions, proofs and scripts."""
-    for pattern in ("nvmed", "crates.txt", "crates/**/*", "bench/**/*", "examples/**/*", "tests/**/*"):
+    for pattern in ("nvmed", "crates.txt", "crates/**/*", "bench/**/*", "host/**/*", "examples/**/*", "tests/**/*"):
         for path in glob.glob(os.path.join(ROOT, pattern), recursive=True):
             if os.path.isfile(path) and not re.search(r"/out/|__pycache__", path):
                 with open(path, encoding="utf-8", errors="replace") as file:

@@ -1,47 +1,54 @@
 #!/usr/bin/env bash
-# Real virtual machines on the host program: Linux guests of Debian's packages with the kernel's own NVMe driver share a drive through the mediator.
+# Real virtual machines on the host program: unmodified guests share a drive through the mediator.
 #
-#     bench/vm.sh linux       two guests at the same time, each with two extents that alternate on the drive: the commands of nvme-cli, a file system,
-#                             fio with verification; a third guest sends random commands and resets its controller meanwhile. Then all is started
-#                             again, and the file systems are as they were; and the blocks of the drive that are no guest's have not changed
+#     bench/vm.sh linux       two Linux guests at the same time, each with two extents that alternate on the drive: the commands of nvme-cli, a file
+#                             system, fio with verification, one guest by scatter gather lists; a third guest sends random commands and resets its
+#                             controller meanwhile. Then all is started again, and the file systems are as they were. Each guest's blocks stand in
+#                             the drive's image where its extents say, and the blocks that are no guest's have not changed
+#     bench/vm.sh drive       the same, and the drive is the NVMe controller of another QEMU, which is started again, too
+#     bench/vm.sh faults      a guest is killed in the middle of its reads and writes ten times, and comes back each time, beside one that goes on; QEMU's
+#                             controller stops answering; it has a block that cannot be read; 1,000,000 rounds of random input for transport and configuration
+#     bench/vm.sh firmware    SeaBIOS boots a boot sector from the shared drive, two guests at once, each its own; EDK2 finds it and reads a file
 #
-# It needs qemu-system-x86, busybox-static, nvme-cli, fio, e2fsprogs and cpio of Debian, and gets a kernel by apt-get download. What it unpacks is kept in
-# VM_CACHE (else ~/.cache/nvmed-vm). The library is taken from LIBRARY, as by bench/c.sh, or built. Each run ends by itself within ten minutes. The last
-# line is 'N passed, M failed', and the status is 0 where M is 0.
+# They need Debian's qemu-system-x86; all but firmware busybox-static, nvme-cli, fio, e2fsprogs, cpio and a kernel, which comes by apt-get download;
+# firmware ovmf, mtools and dosfstools. What is missing is installed, and named. What is unpacked is kept in VM_CACHE (else ~/.cache/nvmed-vm). The library
+# is taken from LIBRARY, as by bench/c.sh, or built. Once that is there, each run ends by itself within ten minutes. The last line is 'N passed,
+# M failed', and the status is 0 where M is 0.
 set -euo pipefail
 export LC_ALL=C
 top=$(dirname "$(dirname "$(readlink -f "$0")")")
+# shellcheck disable=SC2034
 cache=${VM_CACHE:-${XDG_CACHE_HOME:-$HOME/.cache}/nvmed-vm}
-modules=(crypto/crct10dif_common lib/crc64 crypto/crc64_rocksoft_generic lib/crc64-rocksoft lib/crc-t10dif block/t10-pi drivers/nvme/host/nvme-core
-    drivers/nvme/host/nvme lib/crc16 crypto/crc32c_generic fs/mbcache fs/jbd2/jbd2 fs/ext4/ext4)
-programs=(nvme mke2fs fio e2fsck)
 # KVM=1 takes KVM, which is of no use where it is nested
 accelerator=tcg
+# shellcheck disable=SC2034
 [[ -z ${KVM:-} ]] || accelerator=kvm
-# under TCG no interrupt gets through QEMU's proxy: the kernel polls (docs/HOSTING.md)
-words="console=ttyS0 quiet panic=-1 pci=nomsi irqpoll nolapic_timer"
-[[ $accelerator == tcg ]] || words="console=ttyS0 quiet panic=-1 pci=nomsi"
+# of a run, in seconds
 limit=600
 passed=0
 failed=0
-qemu=
+# processes of this script's, to be ended with it
+started=()
 
 stop() {
     echo "bench/vm.sh: $1" >&2
     exit 1
 }
 
-[[ $# == 1 && $1 == linux ]] || {
-    sed -n '4,6s/^# \{0,5\}//p' "$0" >&2
+[[ $# == 1 && $1 =~ ^(linux|drive|faults|firmware)$ ]] || {
+    sed -n 's/^#     //p' "$0" >&2
     exit 2
 }
 
+# memory that QEMU and the program share by its name is kept in RAM
 room=$(mktemp -d)
+shared=$(mktemp -d /dev/shm/nvmed-vm.XXXXXX)
 leave() {
-    [[ -z $qemu ]] || kill "$qemu" 2> /dev/null || true
-    rm -rf "$room"
+    [[ ${#started[@]} == 0 ]] || kill "${started[@]}" 2> /dev/null || true
+    rm -rf "$room" "$shared"
 }
 trap leave EXIT
+trap 'exit 143' TERM INT HUP
 
 check() {
     local name=$1
@@ -54,48 +61,15 @@ check() {
     fi
 }
 
-# ---- what is needed
-
-needed() {
+# Installs what is missing of files, each with the package of Debian that has it: PATH:PACKAGE, or a command's name for its path.
+need() {
     local it missing=()
-    for it in qemu-system-x86_64:qemu-system-x86 busybox:busybox-static nvme:nvme-cli fio:fio mke2fs:e2fsprogs cpio:cpio; do
-        command -v "${it%%:*}" > /dev/null || missing+=("${it##*:}")
+    for it in "$@"; do
+        [[ -e ${it%%:*} ]] || command -v "${it%%:*}" > /dev/null || missing+=("${it##*:}")
     done
     [[ ${#missing[@]} != 0 ]] || return 0
     echo "bench/vm.sh: Debian's packages are installed: ${missing[*]}"
     apt-get install -y --no-install-recommends "${missing[@]}" > "$room/apt" 2>&1 || stop "they could not be installed: ${missing[*]}"
-}
-
-# A kernel, and a small system whose first program is bench/vm/init.
-make_guest() {
-    local package image library
-    mkdir -p "$cache"
-    if [[ ! -f $cache/vmlinuz ]]; then
-        package=$(apt-cache depends linux-image-amd64 | sed -n 's/.*Depends: //p' | head -n 1)
-        (cd "$room" && apt-get download "$package" > /dev/null) || stop "the kernel's package could not be had: $package"
-        dpkg -x "$room/$package"*.deb "$room/kernel"
-        rm -rf "$cache/modules"
-        mkdir "$cache/modules"
-        for it in "${modules[@]}"; do cp "$room"/kernel/lib/modules/*/kernel/"$it".ko "$cache/modules/"; done
-        cp "$room"/kernel/boot/vmlinuz-* "$cache/vmlinuz"
-    fi
-    image=$room/system
-    mkdir -p "$image"/{bin,usr/bin,dev,proc,sys,mnt,tmp,etc,lib/modules,parts}
-    cp "$(command -v busybox)" "$image/bin/busybox"
-    cp "$cache"/modules/*.ko "$image/lib/modules/"
-    cp "$top/bench/vm/init" "$image/init"
-    cp "$top"/bench/vm/parts/*.sh "$image/parts/"
-    cp /etc/mke2fs.conf "$image/etc/"
-    touch "$image/etc/mtab"
-    for it in "${programs[@]}"; do
-        it=$(command -v "$it")
-        cp "$(readlink -f "$it")" "$image/usr/bin/${it##*/}"
-        ldd "$it" | grep -o '/[^ ]*' | while read -r library; do
-            mkdir -p "$image$(dirname "$library")"
-            cp -Ln "$library" "$image$library"
-        done
-    done
-    (cd "$image" && find . | cpio --quiet -o -H newc | gzip -1 > "$room/initrd")
 }
 
 make_host() {
@@ -103,80 +77,46 @@ make_host() {
     "$top/host/build" "$room/library" > "$room/built" 2>&1 || stop "the host program was not built: $(tail -n 1 "$room/built")"
 }
 
-# ---- a run
-
-blocks=65536 # of a guest, in two extents
-memory=448M
-
-# The lines of guest G, of the run's guests, whose part that is.
-guest_lines() {
-    local guest=$1 guests=$2 part=$3 half=$((blocks / 2)) gap=2048
-    echo "guest $guest memory $memory${4:+ $4}"
-    echo "extent $guest $((gap + guest * (half + gap))) $half"
-    echo "extent $guest $((gap + (guests + guest) * (half + gap))) $half"
-    echo "version $guest 1.2"
-    echo "start $guest qemu-system-x86_64 -accel $accelerator -cpu max -display none -serial file:$room/serial.$guest -no-reboot -net none"
-    echo "start $guest -kernel $cache/vmlinuz -initrd $room/initrd -append \"$words guest=$guest part=$part\""
+# Starts the host program on a configuration, beside this script, which a signal then ends at once. What it reports is in $room/host.
+begin_host() {
+    rm -f "$room"/serial.*
+    timeout $((limit > SECONDS ? limit - SECONDS : 1)) "$top/host/out/nvmed-host" "$1" 2> "$room/host" &
+    host=$!
+    started+=("$host")
 }
 
-# Runs the host program on a configuration until all guests have switched off.
-host() {
+# Waits for its end, and reports whether it had this status.
+host_ended() {
     local status=0
-    timeout "$limit" "$top/host/out/nvmed-host" "$1" 2> "$room/host" || status=$?
-    [[ $status == 0 ]] || {
+    wait "$host" || status=$?
+    [[ $status == "$1" ]] || {
         cat "$room/host"
+        echo "nvmed-host ended with status $status"
         return 1
     }
 }
 
-# Whether a guest says that its part passed.
-guest_passed() {
+# Runs it until all guests have switched off.
+host() {
+    begin_host "$1"
+    host_ended 0
+}
+
+# Whether a guest's serial port has a line, which is all of it.
+says() {
     tr -d '\r' < "$room/serial.$1" > "$room/said.$1"
-    grep -q "^guest $1: passed$" "$room/said.$1" || {
+    grep -qFx "$2" "$room/said.$1" || {
         tail -n 30 "$room/said.$1"
         return 1
     }
 }
 
-# The drive is painted, so that a write into blocks that are no guest's is seen.
-paint() {
-    local total=$(((blocks + 2 * 2048) * 3 + 2048))
-    head -c $((total * 512)) /dev/zero | tr '\0' '\245' > "$1"
-}
-
-# Whether the gaps between the guests' extents are as they were painted.
-gaps_are_painted() {
-    local half=$((blocks / 2)) at
-    for ((at = 0; at <= 6; at++)); do
-        cmp -s <(dd if="$1" bs=512 skip=$((at * (half + 2048))) count=2048 2> /dev/null) <(head -c $((2048 * 512)) /dev/zero | tr '\0' '\245') || return 1
-    done
-}
-
-linux_on() {
-    local drive=$1 files=("" "" "")
-    [[ $drive != qemu* ]] || files=("$room/ram.0" "$room/ram.1" "$room/ram.2")
-    {
-        echo "drive $drive"
-        echo "lanes 2"
-        guest_lines 0 3 files "${files[0]}"
-        guest_lines 1 3 files "${files[1]}"
-        guest_lines 2 3 hostile "${files[2]}"
-    } > "$room/first"
-    sed 's/part=[a-z]*/part=again/; /^guest 2 /,$d' "$room/first" > "$room/again"
-    check "the host program, with three guests" host "$room/first"
-    check "guest 0" guest_passed 0
-    check "guest 1" guest_passed 1
-    check "guest 2, which is hostile, has come to its end" guest_passed 2
-    check "the blocks that are no guest's" gaps_are_painted "$room/image"
-    check "the host program, started again" host "$room/again"
-    check "guest 0 finds its files" guest_passed 0
-    check "guest 1 finds its files" guest_passed 1
-}
-
-needed
-make_guest
+need qemu-system-x86_64:qemu-system-x86
+# shellcheck source=/dev/null
+source "$top/bench/vm/$1.sh"
+prepare
 make_host
-paint "$room/image"
-linux_on "ram $(stat -c %s "$room/image") $room/image"
+SECONDS=0
+run
 echo "$passed passed, $failed failed"
 [[ $failed == 0 ]]

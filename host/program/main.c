@@ -5,6 +5,7 @@
 #include <stdio.h>
 #include <stdlib.h>
 #include <string.h>
+#include <sys/stat.h>
 #include <sys/time.h>
 
 #include "clock.h"
@@ -21,6 +22,7 @@ typedef struct host {
     memory_file area;
     window reach;
     mediation mediation;
+    statistics counts;
     guest guest[CONFIG_GUESTS];
     unsigned guests; /* that have begun */
 } host;
@@ -69,10 +71,12 @@ static bool has_no_shares(const config *c, reason *r) {
     return true;
 }
 
-static bool begin(host *h, reason *r) {
+static bool begin(host *h, bool counting, reason *r) {
     char text[256];
     if (!has_no_shares(&h->config, r)) return false;
     if (!map_memory(h, r) || !mediation_open(&h->mediation, &h->config, &h->layout, h->row.bytes, &h->reach, r)) return false;
+    statistics_begin(&h->counts, &h->config);
+    if (counting) h->mediation.counts = &h->counts;
     drive_describe(h->mediation.disk, text, sizeof text);
     fprintf(stderr, "nvmed-host: the drive: %s\n", text);
     for (unsigned i = 0; i < h->guests; i++)
@@ -113,6 +117,14 @@ static void serve(host *h, guest *g, const struct pollfd *p) {
     if (g->connected && (p[0].revents || g->link.partial) && !guest_serve(g, &h->mediation, &r)) lose(h, g, &r);
 }
 
+/* What the drive was given in the last second, where that was asked for. */
+static void say_counts(host *h) {
+    char text[STATISTICS_TEXT];
+    if (!h->mediation.counts) return;
+    statistics_take(&h->counts, text, sizeof text);
+    fprintf(stderr, "nvmed-host: %s\n", text);
+}
+
 /* The guests see what has become of their commands. */
 static void tell(host *h) {
     reason r;
@@ -148,6 +160,7 @@ static int run(host *h) {
         bool good = mediation_work(&h->mediation, &r);
         if (good && clock_milliseconds() - last >= TICK) {
             last = clock_milliseconds();
+            say_counts(h);
             good = mediation_check(&h->mediation, &r);
         }
         if (!good) {
@@ -161,7 +174,8 @@ static int run(host *h) {
 }
 
 static const char help[] =
-    "nvmed-host CONFIGURATION\n"
+    "nvmed-host [--statistics] CONFIGURATION\n"
+    "nvmed-host --join SOCKET FILE WORD..\n"
     "\n"
     "Virtual machines share an NVMe drive through a proved mediator. The configuration has plain lines:\n"
     "\n"
@@ -175,19 +189,33 @@ static const char help[] =
     "  version G 1.2              what its version register says\n"
     "  listen G PATH, or start G WORD..\n"
     "\n"
+    "With --statistics, a line a second says what the drive was given: of each guest its Reads, Writes, Compares and Write Zeroes, and their bytes.\n"
+    "The second form becomes a QEMU with these words, for a guest that listens on the socket and has that file for its memory.\n"
     "Status: 0 where all guests ended or a signal ended it, 1 where it could not begin, 2 for wrong words, 3 where the drive failed.\n";
+
+/* Becomes a guest's QEMU: the socket, the file of its memory, and QEMU's words. It returns only where that failed. */
+static int join(char *const *words) {
+    struct stat about;
+    reason r = {""};
+    if (stat(words[1], &about)) refuse(&r, "%.200s: %s", words[1], strerror(errno));
+    else peer_join(words[0], words + 2, &(peer_memory){words[1], (uint64_t)about.st_size}, &r);
+    fprintf(stderr, "nvmed-host: %s\n", r.text);
+    return FAILED;
+}
 
 int main(int argc, char **argv) {
     static host h = {.area = {.fd = -1}};
     reason r;
     if (argc == 2 && strcmp(argv[1], "--help") == 0) return fputs(help, stdout) < 0;
-    if (argc != 2 || argv[1][0] == '-') {
-        fputs("nvmed-host: one word is wanted, the file of the configuration; or --help\n", stderr);
+    if (argc >= 5 && strcmp(argv[1], "--join") == 0) return join(argv + 2);
+    bool counting = argc == 3 && strcmp(argv[1], "--statistics") == 0;
+    if (argc != 2 + counting || argv[argc - 1][0] == '-') {
+        fputs("nvmed-host: the file of the configuration is wanted, with --statistics before it or not; or --help\n", stderr);
         return USAGE;
     }
     handle_signals();
     int status = FAILED;
-    if (config_read(&h.config, argv[1], &r) && begin(&h, &r)) status = run(&h);
+    if (config_read(&h.config, argv[argc - 1], &r) && begin(&h, counting, &r)) status = run(&h);
     else fprintf(stderr, "nvmed-host: %s\n", r.text);
     end(&h);
     return status;

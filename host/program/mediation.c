@@ -4,7 +4,7 @@
 
 #include "clock.h"
 
-enum { CC = 0x14, RING_SLOTS = 65, EVENTS = 4096 /* of one call of the library, so that the drive gets its doorbells soon */ };
+enum { CC = 0x14, RING_SLOTS = 65, ENTRY = 64, EVENTS = 4096 /* of one call of the library, so that the drive gets its doorbells soon */ };
 
 /* One set-up of the library, with a namespace of each guest's extents. */
 static bool make_mediator(nvmed *m, const config *c, const layout *l, uint8_t *memory, reason *r) {
@@ -48,7 +48,7 @@ static bool create_lanes(mediation *m, reason *r) {
 
 bool mediation_open(mediation *m, const config *c, const layout *l, uint8_t *memory, const window *reach, reason *r) {
     reason more;
-    *m = (mediation){.lanes = c->lanes, .disk = open_drive(c, l, reach, r)};
+    *m = (mediation){.lanes = c->lanes, .memory = memory, .disk = open_drive(c, l, reach, r)};
     if (!m->disk) return false;
     if (make_mediator(&m->mediator, c, l, memory, r)) {
         if (create_lanes(m, r)) return true;
@@ -60,6 +60,11 @@ bool mediation_open(mediation *m, const config *c, const layout *l, uint8_t *mem
 
 static unsigned steps(uint32_t from, uint32_t to) { return (to + RING_SLOTS - from) % RING_SLOTS; }
 
+/* Counts the entries that the drive is about to get. */
+static void count(const mediation *m, const nvmed_lane_rings *rings, uint32_t from, unsigned entries) {
+    for (unsigned i = 0; i < entries; i++) statistics_count(m->counts, m->memory + rings->submission + ENTRY * (uint64_t)((from + i) % RING_SLOTS));
+}
+
 /* Writes the doorbells of a lane that are to have another value. */
 static bool ring(mediation *m, unsigned lane, reason *r) {
     mediation_lane *told = &m->lane[lane];
@@ -67,6 +72,7 @@ static bool ring(mediation *m, unsigned lane, reason *r) {
     if (nvmed_rings(&m->mediator, lane, &now) != NVMED_OK) return refuse(r, "the mediator has no lane %u", lane);
     unsigned sent = steps(told->tail, now.tail), answered = steps(told->head, now.head);
     if (answered || !told->flying) told->since = clock_milliseconds();
+    if (m->counts) count(m, &now, told->tail, sent);
     told->flying += sent;
     told->flying -= answered < told->flying ? answered : told->flying;
     told->tail = now.tail;

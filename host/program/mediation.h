@@ -7,6 +7,7 @@
 #include "layout.h"
 #include "nvmed.h"
 #include "reason.h"
+#include "statistics.h"
 
 enum { MEDIATION_WAIT = 30000 /* milliseconds that a command of the drive may take */ };
 
@@ -20,11 +21,14 @@ typedef struct mediation_lane {
 typedef struct mediation {
     nvmed mediator;
     drive *disk; /* NULL: it has failed, and was closed */
+    const uint8_t *memory; /* where host address 0 would lie */
+    statistics *counts;    /* of what the drive is given; NULL: nothing is counted */
     unsigned lanes;
     mediation_lane lane[NVME_LANES];
 } mediation;
 
-/* Opens the drive, makes the mediator, and creates the lanes' queues. Where it fails nothing is left open. */
+/* Opens the drive, makes the mediator, and creates the lanes' queues. Where it fails nothing is left open. What the drive is given is not counted: who wants
+ * that sets m->counts. */
 bool mediation_open(mediation *m, const config *c, const layout *l, uint8_t *memory, const window *reach, reason *r);
 
 /* Carries out what is due, until nothing is. False, with the reason, where the drive has failed: it is closed then, the lanes are closed, and what was

@@ -33,7 +33,7 @@ mount -t ext4 $disk /mnt
 (cd /mnt && sha256sum -c sums)
 # random reads and writes with verification, on the last quarter of the drive
 umount /mnt
-fio --name=random --filename=$disk --direct=1 --rw=randrw --bsrange=512-128k --bs_unaligned=0 --ioengine=psync --thread --numjobs=4 --offset_increment=2m \
+fio --name=random --filename=$disk --direct=1 --rw=randrw --bsrange=512-128k --bs_unaligned=0 --ioengine=libaio --iodepth=16 --thread --numjobs=4 --offset_increment=2m \
     --offset=$((blocks * 512 / 4 * 3)) --size=2m --verify=crc32c --randseed="$seed" --do_verify=1 --verify_state_save=0 --time_based=0 > /tmp/fio || { cat /tmp/fio; false; }
 grep -E 'READ:|WRITE:' /tmp/fio
 mount -t ext4 $disk /mnt
