@@ -10,7 +10,7 @@ use Rattle.nv_core.proofs.KeptStates.{kept-of}
 use Rattle.nv_core.proofs.PhasedReaps.{low, must-idle, must-wait, phased, shows}
 use Rattle.nv_core.proofs.Reaps.{IsAloft, cid-flies, queue-named, reap-done, reap-idle, reap-no_lane}
 use Rattle.nv_core.proofs.Sides.{due-side, of-live, quiet-in, rung-same, state_in}
-use Rattle.nv_core.specs.Front.{IsBeside, IsLive, IsSideOf, IsStepBeside, Side, rung_with, tails_of, with_side}
+use Rattle.nv_core.specs.Front.{ComesTo, IsBeside, IsLive, IsSideOf, Side, rung_with, with_side}
 use Rattle.nv_core.specs.State.{IsOf, State}
 use Rattle.nv_core.specs.Tags.{state_in as point_in}
 use Rattle.nv_device.specs.Physical.{lane_of}
@@ -19,7 +19,8 @@ use Rattle.nv_entry.specs.Status.{StatusField}
 use Rattle.nv_laws_sound.proofs.Lists.{some-same}
 use Rattle.nv_laws_sound.specs.LaidOut.{IsLaidOut}
 use Rattle.nv_laws_sound.specs.Phased.{phase_at}
-use Rattle.nv_laws_sound.specs.Unplaced.{unplaced_lane, unplaced_tag}
+use Rattle.nv_laws_sound.specs.Unplaced.{after_unplaced, unplaced_lane, unplaced_tag}
+use Rattle.nv_model.specs.Controller.{Controller}
 use Rattle.nv_model.specs.Memory.{byte_in, bytes_from}
 use Rattle.nv_model.specs.Queue.{cqe_size}
 use Rattle.nv_model.specs.declared.reply.Reply.{Reply}
@@ -124,25 +125,22 @@ module _ (geometry : Geometry) (side : Side) (memory : List ℕ) (w : World) (on
   of : IsOf geometry s
   of = of-live geometry theirs memory w exact (subst (λ n. IsLaidOut (length memory) n geometry) (sym (many-same side memory w on)) laid) live
 
-  -- the step of a side is that of the world
+  -- what the event comes to in the world
   closes : (lane : ℕ) (r : Reply) (ls : List Lane) (new : Side)
       → (let a : After = record { world = with_side (record { lanes = ls; tails = side.tails; controllers = side.controllers }) memory w; reply = r } in a)
       ≡ step geometry (event.Reap lane) w → map unplaced_lane ls ≡ map unplaced_lane new.lanes → new.tails ≡ side.tails → new.controllers ≡ side.controllers
-      → IsStepBeside geometry (event.Reap lane) w r new memory
+      → ComesTo geometry (event.Reap lane) w r new memory
   closes lane r ls new is lanes tails controllers =
-      record {
-        reply = sym (ap (λ (a : After). a.reply) is);
-        world =
-            subst (IsBeside new memory) (ap (λ (a : After). a.world) is)
-            (record {
-              host = refl;
-              lanes = lanes;
-              controllers = sym controllers;
-              tails = ap (λ (ts : List ℕ). tails_of (rung_with ts w.device)) (sym on.tails) ∙ ap tails_of (rung-same w.device) ∙ on.tails ∙ sym tails;
-            });
-      }
+      let with_parts : List ℕ → List Lane → List Controller → After = λ ts xs cs. record {
+        world = record w { host = byte_in memory; device = rung_with ts w.device; lanes = xs; controllers = cs };
+        reply = r;
+      } in
+      ap (λ (ts : List ℕ). with_parts ts (map unplaced_lane new.lanes) new.controllers) tails
+      ∙ ap (λ (xs : List Lane). with_parts side.tails xs new.controllers) (sym lanes)
+      ∙ ap (λ (cs : List Controller). with_parts side.tails (map unplaced_lane ls) cs) controllers
+      ∙ ap after_unplaced is
 
-  pub beside-none : (lane : ℕ) → length side.lanes ≤ lane → IsStepBeside geometry (event.Reap lane) w reply.Ignored side memory
+  pub beside-none : (lane : ℕ) → length side.lanes ≤ lane → ComesTo geometry (event.Reap lane) w reply.Ignored side memory
   beside-none lane past =
       closes lane reply.Ignored w.lanes side
       (quiet-in geometry theirs memory w exact (event.Reap lane) tt reply.Ignored theirs memory refl
@@ -208,7 +206,7 @@ module _ (geometry : Geometry) (side : Side) (memory : List ℕ) (w : World) (on
         ∙ sym (map-set unplaced_lane side.lanes i y)
 
     pub beside-idle : (p ≡ q → ⊥)
-        → IsStepBeside geometry (event.Reap lane) w reply.Idle (record { lanes = set side.lanes i l; tails = side.tails; controllers = side.controllers }) memory
+        → ComesTo geometry (event.Reap lane) w reply.Idle (record { lanes = set side.lanes i l; tails = side.tails; controllers = side.controllers }) memory
     beside-idle differ =
         closes lane reply.Idle (set w.lanes i k) (record { lanes = set side.lanes i l; tails = side.tails; controllers = side.controllers })
         (quiet-in geometry theirs memory w exact (event.Reap lane) tt reply.Idle (record { lanes = set w.lanes i k; tails = side.tails; controllers = side.controllers }) memory refl
@@ -230,7 +228,7 @@ module _ (geometry : Geometry) (side : Side) (memory : List ℕ) (w : World) (on
       pub beside-done : (st passed : StatusField) (mid l_new : Lane) → st ≡ status_of completion → passed ≡ passed_on st
           → ((command : Command) (share : Share) (standing : Standing) → slice_get l.tags cid ≡ Some (Flying command share standing)
           → mid ≡ tag_changed cid (Ended command passed (Some share)) l) → l_new ≡ completion_read mid
-          → IsStepBeside geometry (event.Reap lane) w reply.Done (record { lanes = set side.lanes i l_new; tails = side.tails; controllers = side.controllers }) memory
+          → ComesTo geometry (event.Reap lane) w reply.Done (record { lanes = set side.lanes i l_new; tails = side.tails; controllers = side.controllers }) memory
       beside-done st passed mid l_new told by ends reads_on =
           let f = grounded-not (slice_get k.tags cid) flies in
           let t = flies-too l k view.same cid f.command f.share f.at f.is in

@@ -60,9 +60,9 @@ take-rises (suc count) from (x ∷ xs) rise = (rise.0, take-rises count (x + 1) 
 nothing-kept : (kept : List Progress) (s : Slot) (p : Progress) → slot.is_free s ≡ true → IsUsed kept s p → plan_kept p ≡ None
 nothing-kept kept slot.Free progress.Nothing free is = refl
 nothing-kept kept slot.Free (progress.Reading reads) free is = absurd is
-nothing-kept kept slot.Free (progress.Going plan at) free is = absurd is
+nothing-kept kept slot.Free (progress.Going plan) free is = absurd is
 nothing-kept kept slot.Free (progress.Over plan) free is = absurd is
-nothing-kept kept slot.Free (progress.Part part at) free is = absurd is
+nothing-kept kept slot.Free (progress.Part part) free is = absurd is
 nothing-kept kept slot.Free (progress.PartOver part) free is = absurd is
 nothing-kept kept (slot.Used command point) p free is = cc
 

@@ -1,19 +1,27 @@
 -- The calls of the simulated world, by those of its front: the front's side is that of the world, and doorbells are rung with the front's tails.
-use Rattle.std.proofs.Common.{◌≡◌, ℕ, ◌<◌, ◌≤◌, zero, suc, Bool, true, false, cond, List, [], ◌∷◌, length, replicate, set, slice_get, get_or}
+use Rattle.std.proofs.Common.{◌≡◌, ℕ, ◌<◌, ◌≤◌, zero, suc, Bool, true, false, cond, List, [], ◌∷◌, length, map, replicate, set, slice_get, get_or}
 use Rattle.std.proofs.Common.{Option, Some, None, arith, refl, sym, ap, ◌∙◌, subst, inl, inr}
 use Rattle.std.specs.Prelude.{IfSome}
 use Rattle.std.proofs.lemmas.List.{length-set}
 use Rattle.std.proofs.lemmas.Option.{slice_get_past}
 use Rattle.std.specs.List.{slice_index_or}
-use Rattle.nv_core.proofs.Besides.{beside-of}
+use Rattle.nv_core.proofs.Alike.{as-many, beside-told, holder-alike, job-alike, kept-alike}
+use Rattle.nv_core.proofs.DeviceNeeds.{holding-at}
+use Rattle.nv_core.proofs.DevicePosts.{answered, ended-by, post-done, post-not}
+use Rattle.nv_core.proofs.DeviceSteps.{same-world}
+use Rattle.nv_core.specs.Answers.{said}
+use Rattle.nv_world_model.specs.Area.{tag_count}
 use Rattle.nv_core.proofs.Handed.{lane-there}
 use Rattle.nv_core.proofs.LentHost.{after-lent}
-use Rattle.nv_core.proofs.Sides.{rung-one, rung-same, set-nowhere}
+use Rattle.nv_core.proofs.PlacesFollow.{lanes-unplaced, places-found}
+use Rattle.nv_core.proofs.Sides.{in-each, rung-one, rung-same, set-nowhere}
 use Rattle.nv_core.proofs.KeptStates.{kept-of, length-tails, tail-of}
-use Rattle.nv_core.specs.Front.{HasTailMoved, IsBeside, IsLive, IsLiveStep, IsSideOf, IsSideStep, Side, rung_with, tails_of, with_side}
+use Rattle.nv_core.specs.Front.{ComesTo, HasTailMoved, IsBeside, IsLive, IsLiveStep, IsSideOf, IsSideStep, IsStepInEach, Side, rung_with, tails_of, with_side}
+use Rattle.nv_core.specs.Jobs.{holder_in, holder_of, job_in, job_of}
 use Rattle.nv_core.specs.Kept.{AreKept, IsKept, IsLent}
 use Rattle.nv_core.specs.Seat.{IsLoaded}
-use Rattle.nv_core.specs.State.{IsOf, IsStep, State, world_of}
+use Rattle.nv_core.specs.State.{IsOf, IsStep, State, state_of, world_of}
+use Rattle.nv_core.specs.Places.{placed_lanes}
 use Rattle.nv_device.specs.Moving.{IsMoved, unit_of}
 use Rattle.nv_device.specs.Physical.{done_where, has_ended, has_left, held_at, lane_of, no_lane, with_lane}
 use Rattle.nv_device.specs.Posting.{IsPosted}
@@ -23,7 +31,14 @@ use Rattle.nv_device.specs.declared.response.Response.{Response}
 use Rattle.nv_device.specs.declared.response.Response.TheVariants as response
 use Rattle.nv_entry.specs.Status.{StatusField}
 use Rattle.nv_laws_sound.proofs.Lists.{some-same}
+use Rattle.nv_laws_sound.proofs.ControllersSide.{side-alone}
+use Rattle.nv_laws_sound.proofs.Steps.{step-consistent}
+use Rattle.nv_laws_sound.specs.Consistent.{IsConsistent}
+use Rattle.nv_laws_sound.specs.LaidOut.{IsLaidOut}
+use Rattle.nv_laws_sound.specs.Mediators.{IsMediators}
+use Rattle.nv_laws_sound.specs.Unplaced.{IsControllers, after_unplaced, unplaced_lane}
 use Rattle.nv_mem.specs.Lent.{bytes_of_hosts}
+use Rattle.nv_model.specs.Controller.{Controller}
 use Rattle.nv_model.specs.Memory.{byte_in}
 use Rattle.nv_model.specs.declared.reply.Reply.{Reply}
 use Rattle.nv_model.specs.declared.reply.Reply.TheVariants as reply
@@ -32,8 +47,9 @@ use Rattle.nv_world_model.specs.Due.{due}
 use Rattle.nv_world_model.specs.Geometry.{Geometry}
 use Rattle.nv_world_model.specs.Step.{After, step}
 use Rattle.nv_world_model.proofs.Seats.{slice_get-set}
-use Rattle.nv_world_model.specs.World.{World}
+use Rattle.nv_world_model.specs.World.{Lane, World, tag_in}
 use Rattle.nv_world_model.specs.declared.event.Event.{Event}
+use Rattle.nv_world_model.specs.declared.event.Event.TheVariants as event
 
 -- doorbells that were rung with tails have these
 pub tails-rung : (ds : List DeviceLane) (ts : List ℕ) → length ts ≡ length ds → tails_of (rung_with ts ds) ≡ ts
@@ -121,121 +137,197 @@ module _ (p : Physical) (lane : ℕ) (tails : List ℕ) (moved : HasTailMoved la
       ap (λ (ds : List DeviceLane). let q : Physical = record p { lanes = ds } in q)
       (sym (ap (λ (ts : List ℕ). rung_with ts p.lanes) (moved.is ∙ set-nowhere p.lanes lane moved.tail none) ∙ rung-same p.lanes))
 
-module _ (geometry : Geometry) (host : List ℕ) (device : Physical) (front : Side) (old : State)
-    (same : (let s : State = record { host = host; device = device; lanes = front.lanes; controllers = front.controllers } in s) ≡ old)
+-- ---- a state, by its host, its device and its side
+
+-- as it is after an event, its lanes are those of any side that has them but for places
+pub refold : (geometry : Geometry) (e : Event) (s t : State) (r : Reply) (new : Side) → IsOf geometry s → IsStep geometry e s r t
+    → map unplaced_lane t.lanes ≡ map unplaced_lane new.lanes → t.controllers ≡ new.controllers → IsStep geometry e s r (state_of t.host t.device new)
+refold geometry e s t r new of made lanes controllers =
+    let after : IsConsistent geometry (world_of t) =
+    subst (IsConsistent geometry) (sym (ap (λ (a : After). a.world) made.after)) (step-consistent (length s.host) geometry e (world_of s) of.laid_out of.consistent) in
+    let at : t.device.mediator ≡ geometry.mediator = made.size.mediator ∙ of.mediator in
+    let found : placed_lanes t.device.mediator 0 (byte_in t.host) t.device.lanes new.lanes ≡ t.lanes =
+    ap (λ (m : ℕ). placed_lanes m 0 (byte_in t.host) t.device.lanes new.lanes) at
+    ∙ places-found geometry (world_of t) new.lanes after (as-many new.lanes t.lanes (sym lanes)) (sym lanes) in
+    subst (IsStep geometry e s r)
+    (sym (ap (λ (ls : List Lane). let x : State = record { host = t.host; device = t.device; lanes = ls; controllers = new.controllers } in x) found
+    ∙ ap (λ (cs : List Controller). let x : State = record { host = t.host; device = t.device; lanes = t.lanes; controllers = cs } in x) (sym controllers)))
+    made
+
+module _ (geometry : Geometry) (host : List ℕ) (device : Physical) (front : Side) (of : IsOf geometry (state_of host device front)) where
+  abbrev here : State
+  here = state_of host device front
+
+  alike : map unplaced_lane here.lanes ≡ map unplaced_lane front.lanes
+  alike = lanes-unplaced device.mediator 0 (byte_in host) device.lanes front.lanes
+
+  -- an event of the physical controller, which leaves the side alone
+  pub controllers-step : (e : Event) → IsControllers e → (r : Reply) (t : State) → IsStep geometry e here r t
+      → IsStep geometry e here r (state_of t.host t.device front)
+  controllers-step e his r t made =
+      let side = side-alone (world_of here) geometry e his in
+      let world = ap (λ (a : After). a.world) made.after in
+      refold geometry e here t r front of made (ap (λ (w : World). map unplaced_lane w.lanes) world ∙ side.lanes ∙ alike)
+      (ap (λ (w : World). w.controllers) world ∙ side.controllers)
+
+  -- a completion that is posted, or is not
+  pub posts-step : (lane slot : ℕ) (r : Response) (host_new : List ℕ) (device_new : Physical) → lane < length device.lanes → slot < tag_count
+      → r ≡ done_where (has_ended (held_at device lane slot))
+      → (r ≡ response.Done → IfSome (held_at device lane slot) (λ h. IsPosted lane slot (held_status h) host device host_new device_new))
+      → (r ≡ response.Idle → (device_new ≡ device) × (host_new ≡ host)) → length host_new ≡ length host
+      → IsStep geometry (event.DevPost lane slot) here (said r) (state_of host_new device_new front)
+  posts-step lane slot response.Done host_new device_new below slot_below told done idle sized =
+      let o = ended-by (held_at device lane slot) told in
+      let a = holding-at geometry here lane slot o.h of below o.there in
+      controllers-step (event.DevPost lane slot) tt reply.Done
+      (record here { host = host_new; device = device_new; lanes = answered geometry here lane slot o.h a })
+      (post-done geometry here of lane slot host_new device_new o a (done refl) sized)
+  posts-step lane slot response.Idle host_new device_new below slot_below told done idle sized =
+      controllers-step (event.DevPost lane slot) tt reply.Idle (record here { host = host_new; device = device_new })
+      (post-not geometry here of lane slot host_new device_new below slot_below told (idle refl))
+
+  -- an event of guests or of the mediator
+  pub comes-step : (e : Event) (r : Reply) (new : Side) (after : List ℕ) → ComesTo geometry e (world_of here) r new after → length after ≡ length host
+      → IsStep geometry e here r (state_of after (record device { lanes = rung_with new.tails device.lanes }) new)
+  comes-step e r new after comes sized =
+      let w : World = (step geometry e (world_of here)).world in
+      let t : State = record {
+        host = after;
+        device = record device { lanes = rung_with new.tails device.lanes };
+        lanes = w.lanes;
+        controllers = new.controllers;
+      } in
+      let is : world_of t ≡ w =
+      same-world (world_of t) w (ap (λ (a : After). a.world.host) comes) (ap (λ (a : After). a.world.disk) comes) (ap (λ (a : After). a.world.kept) comes)
+      (ap (λ (a : After). a.world.device) comes) refl (ap (λ (a : After). a.world.controllers) comes) in
+      refold geometry e here t r new of
+      (record {
+        after =
+            ap (λ (v : World). let a : After = record { world = v; reply = r } in a) is
+            ∙ ap (λ (x : Reply). let a : After = record { world = w; reply = x } in a) (ap (λ (a : After). a.reply) comes);
+        size = record { host = sized; mediator = refl; blocks = refl };
+      })
+      (sym (ap (λ (a : After). a.world.lanes) comes)) refl
+
+module _ (geometry : Geometry) (host : List ℕ) (device : Physical) (front : Side) (old : State) (same : state_of host device front ≡ old)
     (of : IsOf geometry old) (rung : tails_of device.lanes ≡ front.tails) where
   abbrev s : State
-  s = record { host = host; device = device; lanes = front.lanes; controllers = front.controllers }
+  s = state_of host device front
 
   of-here : IsOf geometry s
   of-here = subst (IsOf geometry) (sym same) of
 
-  pub side-here : IsSideOf front host (world_of s)
-  side-here = record { host = refl; lanes = refl; controllers = refl; tails = rung }
+  pub beside-here : IsBeside front host (world_of s)
+  beside-here = record { host = refl; lanes = alike geometry host device front of-here; controllers = refl; tails = rung }
 
   pub live-here : IsLive geometry (world_of s)
   live-here = record { consistent = of-here.consistent; phased = of-here.phased }
 
   pub kept-here : IsKept geometry front
-  kept-here = subst (λ (ts : List ℕ). AreKept geometry front.lanes ts front.controllers) rung (kept-of geometry s of-here).kept
+  kept-here =
+      subst (λ (ts : List ℕ). AreKept geometry front.lanes ts front.controllers) rung
+      (kept-alike geometry front.lanes s.lanes (tails_of device.lanes) front.controllers (sym (alike geometry host device front of-here)) (kept-of geometry s of-here).kept)
 
   pub lent-here : IsLent geometry front host
-  lent-here = record { laid_out = of-here.laid_out; kept = kept-here }
+  lent-here =
+      record {
+        laid_out = subst (λ n. IsLaidOut (length host) n geometry) (as-many s.lanes front.lanes (alike geometry host device front of-here)) of-here.laid_out;
+        kept = kept-here;
+      }
 
-  -- a call that rings no doorbell
-  quiet-at : (e : Event) (r : Reply) (new : Side) (after : List ℕ)
-      → (let a : After = record { world = with_side new after (world_of s); reply = r } in a) ≡ step geometry e (world_of s) → new.tails ≡ front.tails
-      → length after ≡ length host → IsStep geometry e old r (record s { host = after; lanes = new.lanes; controllers = new.controllers })
+  -- a call after which doorbells are rung
+  pub rung-step : (e : Event) (r : Reply) (new : Side) (after : List ℕ) → IsStepInEach geometry e front host r new after → length after ≡ length host
+      → IsStep geometry e old r (state_of after (record device { lanes = rung_with new.tails device.lanes }) new)
+  rung-step e r new after made sized =
+      subst (λ (o : State). IsStep geometry e o r (state_of after (record device { lanes = rung_with new.tails device.lanes }) new)) same
+      (comes-step geometry host device front of-here e r new after (made (world_of s) beside-here) sized)
+
+  -- one that rings none
+  quiet-at : (e : Event) (r : Reply) (new : Side) (after : List ℕ) → ComesTo geometry e (world_of s) r new after → new.tails ≡ front.tails
+      → length after ≡ length host → IsStep geometry e old r (state_of after device new)
   quiet-at e r new after made stays sized =
-      subst (λ (o : State). IsStep geometry e o r (record s { host = after; lanes = new.lanes; controllers = new.controllers })) same
-      (record {
-        after =
-            ap (λ (ds : List DeviceLane). let a : After = record { world = record (world_of s) { host = byte_in after; device = ds; lanes = new.lanes; controllers = new.controllers }; reply = r } in a)
-            (sym (ap (λ (ts : List ℕ). rung_with ts device.lanes) (stays ∙ sym rung) ∙ rung-same device.lanes))
-            ∙ made;
-        size = record { host = sized; mediator = refl; blocks = refl };
-      })
+      subst (λ (o : State). IsStep geometry e o r (state_of after device new)) same
+      (subst (λ (ds : List DeviceLane). IsStep geometry e s r (state_of after (record device { lanes = ds }) new))
+      (ap (λ (ts : List ℕ). rung_with ts device.lanes) (stays ∙ sym rung) ∙ rung-same device.lanes)
+      (comes-step geometry host device front of-here e r new after made sized))
 
-  pub quiet-step : (e : Event) (r : Reply) (new : Side) (after : List ℕ) → IsSideStep geometry e front host r new after → new.tails ≡ front.tails
-      → length after ≡ length host → IsStep geometry e old r (record s { host = after; lanes = new.lanes; controllers = new.controllers })
-  quiet-step e r new after made stays sized = quiet-at e r new after (made (world_of s) side-here) stays sized
+  pub quiet-step : (e : Event) → IsMediators e → (r : Reply) (new : Side) (after : List ℕ) → IsSideStep geometry e front host r new after
+      → new.tails ≡ front.tails → length after ≡ length host → IsStep geometry e old r (state_of after device new)
+  quiet-step e mine r new after made stays sized =
+      quiet-at e r new after (in-each geometry e front new host after r mine (λ w is. ap after_unplaced (made w is)) (world_of s) beside-here) stays sized
 
   -- one that needs a world as events leave it
   pub live-step : (e : Event) (r : Reply) (new : Side) → IsLiveStep geometry e front host r new host → new.tails ≡ front.tails
-      → IsStep geometry e old r (record s { lanes = new.lanes; controllers = new.controllers })
-  live-step e r new made stays = quiet-at e r new host (made (world_of s) side-here live-here) stays refl
+      → IsStep geometry e old r (state_of host device new)
+  live-step e r new made stays = quiet-at e r new host (made (world_of s) beside-here live-here) stays refl
 
-  -- one after which doorbells are rung
-  pub rung-step : (e : Event) (r : Reply) (new : Side) (after : List ℕ) → IsSideStep geometry e front host r new after → length after ≡ length host
-      → IsStep geometry e old r
-      (record s { host = after; device = record device { lanes = rung_with new.tails device.lanes }; lanes = new.lanes; controllers = new.controllers })
-  rung-step e r new after made sized =
-      subst (λ (o : State). IsStep geometry e o r
-      (record s { host = after; device = record device { lanes = rung_with new.tails device.lanes }; lanes = new.lanes; controllers = new.controllers })) same
-      (record { after = made (world_of s) side-here; size = record { host = sized; mediator = refl; blocks = refl } })
+  pub due-here : (e : Event) → IsMediators e → (b : Bool) → ((w : World) → IsSideOf front host w → b ≡ due geometry e w) → b ≡ due geometry e (world_of old)
+  due-here e mine b is =
+      beside-told geometry e mine front host b is (world_of s) beside-here ∙ ap (λ (o : State). due geometry e (world_of o)) same
 
-  pub due-here : (e : Event) (b : Bool) → ((w : World) → IsSideOf front host w → b ≡ due geometry e w) → b ≡ due geometry e (world_of old)
-  due-here e b is = is (world_of s) side-here ∙ ap (λ (o : State). due geometry e (world_of o)) same
+-- what is told of a tag
+module _ (host : List ℕ) (device : Physical) (front : Side) (old : State) (same : state_of host device front ≡ old) where
+  found-here : map unplaced_lane front.lanes ≡ map unplaced_lane (state_of host device front).lanes
+  found-here = sym (lanes-unplaced device.mediator 0 (byte_in host) device.lanes front.lanes)
+
+  pub job-here : (lane tag : ℕ) → job_in lane tag (tag_in (slice_get front.lanes lane) tag) ≡ job_of (world_of old) lane tag
+  job-here lane tag =
+      job-alike front.lanes (state_of host device front).lanes found-here lane tag ∙ ap (λ (o : State). job_of (world_of o) lane tag) same
+
+  pub holder-here : (lane tag : ℕ) → holder_in (tag_in (slice_get front.lanes lane) tag) ≡ holder_of (world_of old) lane tag
+  holder-here lane tag =
+      holder-alike front.lanes (state_of host device front).lanes found-here lane tag ∙ ap (λ (o : State). holder_of (world_of o) lane tag) same
 
 -- the same where the host is lent as a slice of one
 module _ (geometry : Geometry) (hosts : List (List ℕ)) (host : List ℕ) (is : hosts ≡ host ∷ []) (device : Physical) (front : Side) (old : State)
-    (same : (let s : State = record { host = host; device = device; lanes = front.lanes; controllers = front.controllers } in s) ≡ old)
-    (of : IsOf geometry old) (rung : tails_of device.lanes ≡ front.tails) where
+    (same : state_of host device front ≡ old) (of : IsOf geometry old) (rung : tails_of device.lanes ≡ front.tails) where
   abbrev lent : List ℕ
   lent = bytes_of_hosts hosts
 
-  lent-same : (let s : State = record { host = lent; device = device; lanes = front.lanes; controllers = front.controllers } in s) ≡ old
-  lent-same =
-      ap (λ (h : List ℕ). let s : State = record { host = h; device = device; lanes = front.lanes; controllers = front.controllers } in s) (ap bytes_of_hosts is)
-      ∙ same
+  lent-same : state_of lent device front ≡ old
+  lent-same = ap (λ (h : List ℕ). state_of h device front) (ap bytes_of_hosts is) ∙ same
 
   pub lent-kept : IsLent geometry front lent
   lent-kept = lent-here geometry lent device front old lent-same of rung
 
-  pub lent-due : (e : Event) (b : Bool) → ((w : World) → IsSideOf front lent w → b ≡ due geometry e w) → b ≡ due geometry e (world_of old)
-  lent-due e b holds = due-here geometry lent device front old lent-same of rung e b holds
+  pub lent-due : (e : Event) → IsMediators e → (b : Bool) → ((w : World) → IsSideOf front lent w → b ≡ due geometry e w) → b ≡ due geometry e (world_of old)
+  lent-due e mine b holds = due-here geometry lent device front old lent-same of rung e mine b holds
 
   -- for a call that reads it
-  pub shown-step : (e : Event) (r : Reply) (new : Side) → IsSideStep geometry e front lent r new lent → new.tails ≡ front.tails
-      → IsStep geometry e old r (record { host = host; device = device; lanes = new.lanes; controllers = new.controllers })
-  shown-step e r new made stays =
-      subst (λ (h : List ℕ). IsStep geometry e old r (record { host = h; device = device; lanes = new.lanes; controllers = new.controllers })) (ap bytes_of_hosts is)
-      (quiet-step geometry lent device front old lent-same of rung e r new lent made stays refl)
+  pub shown-step : (e : Event) → IsMediators e → (r : Reply) (new : Side) → IsSideStep geometry e front lent r new lent → new.tails ≡ front.tails
+      → IsStep geometry e old r (state_of host device new)
+  shown-step e mine r new made stays =
+      subst (λ (h : List ℕ). IsStep geometry e old r (state_of h device new)) (ap bytes_of_hosts is)
+      (quiet-step geometry lent device front old lent-same of rung e mine r new lent made stays refl)
 
   -- and for one that needs a world as events leave it
   pub shown-live : (e : Event) (r : Reply) (new : Side) → IsLiveStep geometry e front lent r new lent → new.tails ≡ front.tails
-      → IsStep geometry e old r (record { host = host; device = device; lanes = new.lanes; controllers = new.controllers })
+      → IsStep geometry e old r (state_of host device new)
   shown-live e r new made stays =
-      subst (λ (h : List ℕ). IsStep geometry e old r (record { host = h; device = device; lanes = new.lanes; controllers = new.controllers })) (ap bytes_of_hosts is)
+      subst (λ (h : List ℕ). IsStep geometry e old r (state_of h device new)) (ap bytes_of_hosts is)
       (live-step geometry lent device front old lent-same of rung e r new made stays)
 
-  pub lent-side : IsSideOf front lent (world_of (record { host = lent; device = device; lanes = front.lanes; controllers = front.controllers }))
-  lent-side = side-here geometry lent device front old lent-same of rung
+  pub lent-beside : IsBeside front lent (world_of (state_of lent device front))
+  lent-beside = beside-here geometry lent device front old lent-same of rung
 
-  pub lent-beside : IsBeside front lent (world_of (record { host = lent; device = device; lanes = front.lanes; controllers = front.controllers }))
-  lent-beside = beside-of front lent _ lent-side
-
-  pub lent-live : IsLive geometry (world_of (record { host = lent; device = device; lanes = front.lanes; controllers = front.controllers }))
+  pub lent-live : IsLive geometry (world_of (state_of lent device front))
   lent-live = live-here geometry lent device front old lent-same of rung
 
-  pub lent-due-live : (e : Event) (b : Bool) → ((w : World) → IsSideOf front lent w → IsLive geometry w → b ≡ due geometry e w) → b ≡ due geometry e (world_of old)
-  lent-due-live e b holds = holds _ lent-side lent-live ∙ ap (λ (o : State). due geometry e (world_of o)) lent-same
+  pub lent-due-live : (e : Event) (b : Bool) → ((w : World) → IsBeside front lent w → IsLive geometry w → b ≡ due geometry e w) → b ≡ due geometry e (world_of old)
+  lent-due-live e b holds = holds _ lent-beside lent-live ∙ ap (λ (o : State). due geometry e (world_of o)) lent-same
 
   -- for one that stores to it
   module _ (after : List (List ℕ)) (sized : length (bytes_of_hosts after) ≡ length lent) where
-    pub lent-step : (e : Event) (r : Reply) (new : Side) → IsSideStep geometry e front lent r new (bytes_of_hosts after) → new.tails ≡ front.tails
-        → IsStep geometry e old r (record { host = slice_index_or after 0 host; device = device; lanes = new.lanes; controllers = new.controllers })
-    lent-step e r new made stays =
-        subst (λ (h : List ℕ). IsStep geometry e old r (record { host = h; device = device; lanes = new.lanes; controllers = new.controllers }))
-        (after-lent hosts host is after sized)
-        (quiet-step geometry lent device front old lent-same of rung e r new (bytes_of_hosts after) made stays sized)
+    pub lent-step : (e : Event) → IsMediators e → (r : Reply) (new : Side) → IsSideStep geometry e front lent r new (bytes_of_hosts after)
+        → new.tails ≡ front.tails → IsStep geometry e old r (state_of (slice_index_or after 0 host) device new)
+    lent-step e mine r new made stays =
+        subst (λ (h : List ℕ). IsStep geometry e old r (state_of h device new)) (after-lent hosts host is after sized)
+        (quiet-step geometry lent device front old lent-same of rung e mine r new (bytes_of_hosts after) made stays sized)
 
-    pub lent-rung : (e : Event) (r : Reply) (new : Side) → IsSideStep geometry e front lent r new (bytes_of_hosts after)
-        → IsStep geometry e old r
-        (record { host = slice_index_or after 0 host; device = record device { lanes = rung_with new.tails device.lanes }; lanes = new.lanes; controllers = new.controllers })
+    pub lent-rung : (e : Event) (r : Reply) (new : Side) → IsStepInEach geometry e front lent r new (bytes_of_hosts after)
+        → IsStep geometry e old r (state_of (slice_index_or after 0 host) (record device { lanes = rung_with new.tails device.lanes }) new)
     lent-rung e r new made =
-        subst (λ (h : List ℕ). IsStep geometry e old r
-        (record { host = h; device = record device { lanes = rung_with new.tails device.lanes }; lanes = new.lanes; controllers = new.controllers }))
+        subst (λ (h : List ℕ). IsStep geometry e old r (state_of h (record device { lanes = rung_with new.tails device.lanes }) new))
         (after-lent hosts host is after sized)
         (rung-step geometry lent device front old lent-same of rung e r new (bytes_of_hosts after) made sized)
 

@@ -28,67 +28,41 @@ use Rattle.nv_world_model.specs.World.{Answered, Command, Flying, InDevice, Lane
 use Rattle.nv_world_model.specs.declared.event.Event.TheVariants as event
 use Rattle.nv_laws_sound.proofs.Retags.{stands-is}
 
--- ---- the lane of a tag
-
--- the lane that was looked up is the one that is there
-pub lane-looked : (lanes : List Lane) (lane i : ℕ) (l x : Lane) → slice_get lanes lane ≡ Some x → i ≡ lane → l ≡ get_or lanes i l → l ≡ x
-lane-looked lanes lane i l x found at is = is ∙ ap (λ (k : ℕ). get_or lanes k l) at ∙ get_or_from_slice_get lanes lane x l found
-
--- a tag's command stands there now, whatever its command and its share are
-abbrev pub StandsNow : (tag : ℕ) → Standing → (l new : Lane) → Type 0
-StandsNow tag standing l new = (command : Command) (share : Share) (before : Standing) → slice_get l.tags tag ≡ Some (Flying command share before)
-    → new ≡ tag_changed tag (Flying command share standing) l
+-- ---- the world with a completion
 
 module _ (geometry : Geometry) (s : State) (lane slot : ℕ) (h : Held) (a : IsHoldingAt geometry s lane slot h) where
   -- its tag flies
   flies : slice_get a.sides.l.tags slot ≡ Some (Flying a.holds.command a.holds.share InDevice)
   flies = a.at_tag ∙ ap (λ (t : Tag). Some t) a.holds.flies
 
-  pub held-flying : (i : ℕ) (l : Lane) → i ≡ lane → l ≡ get_or s.lanes i l → state_in (slice_get l.tags slot) ≡ Some state.Flying
-  held-flying i l at is =
-      ap (λ (x : Lane). state_in (slice_get x.tags slot)) (lane-looked s.lanes lane i l a.sides.l a.sides.at_lane at is) ∙ ap state_in flies
+  -- the lanes with the tag answered
+  abbrev pub answered : List Lane
+  answered = set s.lanes lane (tag_changed slot (Flying a.holds.command a.holds.share (Answered a.sides.d.posted)) a.sides.l)
 
-  -- the lane with the tag answered
-  answered-lane : (posted i : ℕ) (l l_new : Lane) → posted ≡ (lane_of s.device lane).posted → i ≡ lane → l ≡ get_or s.lanes i l
-      → StandsNow slot (Answered posted) l l_new
-      → l_new ≡ tag_changed slot (Flying a.holds.command a.holds.share (Answered a.sides.d.posted)) a.sides.l
-  answered-lane posted i l l_new was at is new =
-      let looked = lane-looked s.lanes lane i l a.sides.l a.sides.at_lane at is in
-      let standing : Standing → Lane → Lane = λ st x. tag_changed slot (Flying a.holds.command a.holds.share st) x in
-      new a.holds.command a.holds.share InDevice (ap (λ (x : Lane). slice_get x.tags slot) looked ∙ flies)
-      ∙ ap (standing (Answered posted)) looked
-      ∙ ap (λ (n : ℕ). standing (Answered n) a.sides.l) (was ∙ ap (λ (d : DeviceLane). d.posted) a.sides.seen)
-
-  -- the world with the completion
-  posted-world : (st : StatusField) (posted i : ℕ) (host : List ℕ) (device : Physical) (l l_new : Lane) → IsOf geometry s
-      → IsPosted lane slot st s.host s.device host device → posted ≡ (lane_of s.device lane).posted → i ≡ lane → l ≡ get_or s.lanes i l
-      → StandsNow slot (Answered posted) l l_new
-      → world_of (record s { host = host; device = device; lanes = set s.lanes i l_new })
-      ≡ device_posted geometry.mediator lane slot st a.sides.d (world_of s)
+  posted-world : (st : StatusField) (host : List ℕ) (device : Physical) → IsOf geometry s → IsPosted lane slot st s.host s.device host device
+      → world_of (record s { host = host; device = device; lanes = answered }) ≡ device_posted geometry.mediator lane slot st a.sides.d (world_of s)
   unfolding device_posted
-  posted-world st posted i host device l l_new of p was at is new =
+  posted-world st host device of p =
       let w = world_of s in
       let d = a.sides.d in
       let written = completion_written geometry.mediator lane slot st d (byte_in s.host) in
-      let answered = tag_changed slot (Flying a.holds.command a.holds.share (Answered d.posted)) a.sides.l in
-      let behind : World = record w { host = written; lanes = set s.lanes lane answered; device = set s.device.lanes lane (completion_posted slot d) } in
-      same-world (world_of (record s { host = host; device = device; lanes = set s.lanes i l_new })) behind
+      let behind : World = record w { host = written; lanes = answered; device = set s.device.lanes lane (completion_posted slot d) } in
+      same-world (world_of (record s { host = host; device = device; lanes = answered })) behind
       (p.host
       ∙ ap (λ (m : ℕ). completion_written m lane slot st (lane_of s.device lane) (byte_in s.host)) of.mediator
       ∙ ap (λ (x : DeviceLane). completion_written geometry.mediator lane slot st x (byte_in s.host)) a.sides.seen)
       (ap (λ (q : Physical). byte_of_block q.disk) p.device)
       (ap (λ (q : Physical). mark_of q.kept) p.device)
       (ap (λ (q : Physical). q.lanes) p.device ∙ ap (λ (x : DeviceLane). set s.device.lanes lane (completion_posted slot x)) a.sides.seen)
-      (ap (λ (k : ℕ). set s.lanes k l_new) at ∙ ap (λ (x : Lane). set s.lanes lane x) (answered-lane posted i l l_new was at is new))
-      refl
+      refl refl
       ∙ sym (stands-is w lane slot a.sides.l d a.holds.command a.holds.share InDevice (Answered d.posted) written (completion_posted slot) a.sides.at_lane a.sides.at_device flies)
 
 -- ---- the events
 
 -- host, disk and area are as large as before
-posted-size : (s : State) (lane slot i : ℕ) (st : StatusField) (host : List ℕ) (device : Physical) (l_new : Lane) → IsPosted lane slot st s.host s.device host device
-    → length host ≡ length s.host → IsSameSize s (record s { host = host; device = device; lanes = set s.lanes i l_new })
-posted-size s lane slot i st host device l_new p sized =
+posted-size : (s : State) (lane slot : ℕ) (st : StatusField) (host : List ℕ) (device : Physical) (lanes : List Lane) → IsPosted lane slot st s.host s.device host device
+    → length host ≡ length s.host → IsSameSize s (record s { host = host; device = device; lanes = lanes })
+posted-size s lane slot st host device lanes p sized =
     record {
       host = sized;
       mediator = ap (λ (q : Physical). q.mediator) p.device;
@@ -146,22 +120,20 @@ module _ (geometry : Geometry) (s : State) (is : IsOf geometry s) (lane slot : �
           some-held geometry s is lane slot posts h a ∙ by_left h.left h a.sides.d told
 
   -- the completion of a command that has ended
-  pub post-done : (posted i : ℕ) (host : List ℕ) (device : Physical) (l l_new : Lane) (o : HasEnded (held_at s.device lane slot))
-      → IsHoldingAt geometry s lane slot o.h
+  pub post-done : (host : List ℕ) (device : Physical) (o : HasEnded (held_at s.device lane slot)) → (a : IsHoldingAt geometry s lane slot o.h)
       → IfSome (held_at s.device lane slot) (λ h. IsPosted lane slot (held_status h) s.host s.device host device)
-      → length host ≡ length s.host → posted ≡ (lane_of s.device lane).posted → i ≡ lane → l ≡ get_or s.lanes i l
-      → StandsNow slot (Answered posted) l l_new
-      → IsStep geometry (event.DevPost lane slot) s reply.Done (record s { host = host; device = device; lanes = set s.lanes i l_new })
+      → length host ≡ length s.host
+      → IsStep geometry (event.DevPost lane slot) s reply.Done (record s { host = host; device = device; lanes = answered geometry s lane slot o.h a })
   unfolding step
-  post-done posted i host device l l_new o a done sized was at looked new =
+  post-done host device o a done sized =
       let p : IsPosted lane slot (held_status o.h) s.host s.device host device =
       subst (λ (x : Option Held). IfSome x (λ h. IsPosted lane slot (held_status h) s.host s.device host device)) o.there done in
       record {
         after =
-            ap (λ (w : World). after w reply.Done) (posted-world geometry s lane slot o.h a (held_status o.h) posted i host device l l_new is p was at looked new)
+            ap (λ (w : World). after w reply.Done) (posted-world geometry s lane slot o.h a (held_status o.h) host device is p)
             ∙ sym (some-held geometry s is lane slot posts o.h a
             ∙ ap (λ (left : List ℕ). device_post left geometry.mediator lane slot o.h a.sides.d (world_of s)) o.over);
-        size = posted-size s lane slot i (held_status o.h) host device l_new p sized;
+        size = posted-size s lane slot (held_status o.h) host device (answered geometry s lane slot o.h a) p sized;
       }
 
   -- no command that could fail
@@ -188,19 +160,17 @@ module _ (geometry : Geometry) (s : State) (is : IsOf geometry s) (lane slot : �
       }
 
   -- the completion of a command that fails
-  pub fail-done : (st : StatusField) (h : Held) (posted i : ℕ) (host : List ℕ) (device : Physical) (l l_new : Lane)
-      → IsHoldingAt geometry s lane slot h → is_success st ≡ false → IsPosted lane slot st s.host s.device host device
-      → length host ≡ length s.host → posted ≡ (lane_of s.device lane).posted → i ≡ lane → l ≡ get_or s.lanes i l
-      → StandsNow slot (Answered posted) l l_new
-      → IsStep geometry (event.DevFail lane slot st) s reply.Done (record s { host = host; device = device; lanes = set s.lanes i l_new })
+  pub fail-done : (st : StatusField) (h : Held) (host : List ℕ) (device : Physical) → (a : IsHoldingAt geometry s lane slot h) → is_success st ≡ false
+      → IsPosted lane slot st s.host s.device host device → length host ≡ length s.host
+      → IsStep geometry (event.DevFail lane slot st) s reply.Done (record s { host = host; device = device; lanes = answered geometry s lane slot h a })
   unfolding step
-  fail-done st h posted i host device l l_new a failure p sized was at looked new =
+  fail-done st h host device a failure p sized =
       record {
         after =
-            ap (λ (w : World). after w reply.Done) (posted-world geometry s lane slot h a st posted i host device l l_new is p was at looked new)
+            ap (λ (w : World). after w reply.Done) (posted-world geometry s lane slot h a st host device is p)
             ∙ sym (some-held geometry s is lane slot (fails st) h a
             ∙ ap (λ (b : Bool). cond b (replied reply.Ignored (world_of s)) (replied reply.Done (device_posted geometry.mediator lane slot st a.sides.d (world_of s)))) failure);
-        size = posted-size s lane slot i st host device l_new p sized;
+        size = posted-size s lane slot st host device (answered geometry s lane slot h a) p sized;
       }
 
 -- ---- what was told

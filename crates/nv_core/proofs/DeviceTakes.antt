@@ -4,7 +4,6 @@ use Rattle.std.proofs.lemmas.Option.{slice_get_past}
 use Rattle.nv_core.specs.State.{IsOf, IsStep, State, world_of}
 use Rattle.nv_core.specs.Tags.{state_in}
 use Rattle.nv_core.proofs.DeviceNeeds.{HasSides, IsNext, has-sides}
-use Rattle.nv_core.proofs.DevicePosts.{StandsNow, lane-looked}
 use Rattle.nv_core.proofs.DeviceSteps.{after, same-world}
 use Rattle.nv_core.proofs.Placed.{same-size}
 use Rattle.nv_device.specs.Physical.{lane_of, with_lane}
@@ -27,18 +26,6 @@ use Rattle.nv_world_model.specs.declared.event.Event.TheVariants as event
 use Rattle.nv_laws_sound.proofs.EntryFields.{entry-cid}
 use Rattle.nv_laws_sound.proofs.Lists.{some-same}
 use Rattle.nv_laws_sound.proofs.TakenEvents.{took-world}
-
--- ---- what was told of the front entry
-
--- none waits
-pub none-waits : (b : Bool) (cid : ℕ) → cond b (Some cid) None ≡ None → b ≡ false
-none-waits true cid e = cc
-none-waits false cid e = refl
-
--- one waits, and has that identifier
-pub one-waits : (b : Bool) (cid tag : ℕ) → cond b (Some cid) None ≡ Some tag → (b ≡ true) × (tag ≡ cid)
-one-waits true cid tag e = (refl, sym (some-same cid tag e))
-one-waits false cid tag e = cc
 
 module _ (geometry : Geometry) (s : State) (is : IsOf geometry s) (lane : ℕ) where
   abbrev takes : DeviceLane → After
@@ -73,24 +60,6 @@ module _ (geometry : Geometry) (s : State) (is : IsOf geometry s) (lane : ℕ) w
   take-idle below none = record { after = sym (take-by false (has-sides geometry s lane is below) none); size = same-size s }
 
   module _ (a : IsNext geometry s lane) where
-    queued : slice_get a.sides.l.tags a.tag ≡ Some (Flying a.next.command a.next.share (Queued a.sides.d.head))
-    queued = a.at_tag ∙ ap (λ (t : Tag). Some t) a.next.flies
-
-    pub next-flying : (i tag : ℕ) (l : Lane) → i ≡ lane → tag ≡ a.tag → l ≡ get_or s.lanes i l → state_in (slice_get l.tags tag) ≡ Some state.Flying
-    next-flying i tag l at tag_is looked =
-        ap (λ (x : Lane). state_in (slice_get x.tags tag)) (lane-looked s.lanes lane i l a.sides.l a.sides.at_lane at looked)
-        ∙ ap (λ (n : ℕ). state_in (slice_get a.sides.l.tags n)) tag_is ∙ ap state_in queued
-
-    -- the lane with the tag in the device
-    device-lane : (i tag : ℕ) (l l_new : Lane) → i ≡ lane → tag ≡ a.tag → l ≡ get_or s.lanes i l → StandsNow tag InDevice l l_new
-        → l_new ≡ tag_changed a.tag (Flying a.next.command a.next.share InDevice) a.sides.l
-    device-lane i tag l l_new at tag_is looked new =
-        let same = lane-looked s.lanes lane i l a.sides.l a.sides.at_lane at looked in
-        let flying : Tag = Flying a.next.command a.next.share InDevice in
-        new a.next.command a.next.share (Queued a.sides.d.head)
-        (ap (λ (x : Lane). slice_get x.tags tag) same ∙ ap (λ (n : ℕ). slice_get a.sides.l.tags n) tag_is ∙ queued)
-        ∙ ap (tag_changed tag flying) same ∙ ap (λ (n : ℕ). tag_changed n flying a.sides.l) tag_is
-
     abbrev physical : List ℕ
     physical = share_entry a.next.share a.next.guest.namespace a.next.guest a.next.command.entry geometry.mediator lane a.tag
 
@@ -104,26 +73,26 @@ module _ (geometry : Geometry) (s : State) (is : IsOf geometry s) (lane : ℕ) w
         ∙ ap (λ (e : List ℕ). entry_taken e (byte_in s.host) d) a.front_is
         ∙ ap (λ (n : ℕ). let x : DeviceLane = record d { head = next_slot ring_size d.head; held = set d.held n (Some (held_of physical (byte_in s.host))) } in x) cid
 
-    pub take-done : (i tag : ℕ) (device : Physical) (l l_new : Lane) → waits lane s.device ≡ true → device ≡ taken lane s.host s.device
-        → i ≡ lane → tag ≡ a.tag → l ≡ get_or s.lanes i l → StandsNow tag InDevice l l_new
-        → IsStep geometry (event.DevTake lane) s reply.Done (record s { device = device; lanes = set s.lanes i l_new })
-    take-done i tag device l l_new waiting done at tag_is looked new =
+    pub take-done : (device : Physical) → waits lane s.device ≡ true → device ≡ taken lane s.host s.device
+        → IsStep geometry (event.DevTake lane) s reply.Done
+        (record s { device = device; lanes = set s.lanes lane (tag_changed a.tag (Flying a.next.command a.next.share InDevice) a.sides.l) })
+    take-done device waiting done =
         let w = world_of s in
         let d = a.sides.d in
         let is_taken : device ≡ with_lane lane (entry_taken (front_of lane s.host s.device) (byte_in s.host) (lane_of s.device lane)) s.device =
         done ∙ ap (λ (b : Bool). cond b (with_lane lane (entry_taken (front_of lane s.host s.device) (byte_in s.host) (lane_of s.device lane)) s.device) s.device) waiting in
+        let lanes : List Lane = set s.lanes lane (tag_changed a.tag (Flying a.next.command a.next.share InDevice) a.sides.l) in
         let behind : World = record w {
-          lanes = set s.lanes lane (tag_changed a.tag (Flying a.next.command a.next.share InDevice) a.sides.l);
+          lanes = lanes;
           device = set s.device.lanes lane (record d { head = next_slot ring_size d.head; held = set d.held a.tag (Some (held_of physical (byte_in s.host))) });
         } in
-        let new_world : World = world_of (record s { device = device; lanes = set s.lanes i l_new }) in
+        let new_world : World = world_of (record s { device = device; lanes = lanes }) in
         let same : new_world ≡ behind =
         same-world new_world behind refl
         (ap (λ (q : Physical). byte_of_block q.disk) is_taken)
         (ap (λ (q : Physical). mark_of q.kept) is_taken)
         (ap (λ (q : Physical). q.lanes) is_taken ∙ ap (λ (x : DeviceLane). set s.device.lanes lane x) taken-lane)
-        (ap (λ (k : ℕ). set s.lanes k l_new) at ∙ ap (λ (x : Lane). set s.lanes lane x) (device-lane i tag l l_new at tag_is looked new))
-        refl in
+        refl refl in
         record {
           after =
               ap (λ (v : World). after v reply.Done)

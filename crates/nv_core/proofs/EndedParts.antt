@@ -48,9 +48,9 @@ pub no-part : (led : Option MadePlan) (command : Command) (st : StatusField) (sh
     → ((part : ℕ) → p ≡ progress.PartOver part → ⊥) → share ≡ None
 no-part led command st share progress.Nothing made first further = cc
 no-part led command st share (progress.Reading reads) made first further = cc
-no-part led command st share (progress.Going plan at) made first further = cc
+no-part led command st share (progress.Going plan) made first further = cc
 no-part led command st share (progress.Over plan) made first further = absurd (first plan refl)
-no-part led command st share (progress.Part part at) made first further = cc
+no-part led command st share (progress.Part part) made first further = cc
 no-part led command st share (progress.PartOver part) made first further = absurd (further part refl)
 
 -- a part is one of the plan's

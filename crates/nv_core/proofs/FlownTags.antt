@@ -2,7 +2,7 @@
 use Rattle.std.proofs.Common.{◌≡◌, ℕ, zero, suc, ◌+◌, ◌<◌, cond, Bool, true, false, List, [], ◌∷◌, All, drop, get_or, length, set, slice_get}
 use Rattle.std.proofs.Common.{Option, Some, refl, sym, ap, ◌∙◌, subst, arith}
 use Rattle.nv_core.specs.Groups.{all_handed}
-use Rattle.nv_core.specs.Handing.{IsRising, first_kept, part_kept, parts_kept, parts_slots, point_of, slot_behind}
+use Rattle.nv_core.specs.Handing.{IsRising, first_kept, part_kept, parts_kept, parts_slots, point_of}
 use Rattle.nv_core.specs.Tags.{HasCommand, IsTaken, IsUsed, IsWhole, ended_as, flying_as, part_in, plan_in, plan_kept, state_in, tag_made, tags_of}
 use Rattle.nv_core.specs.declared.progress.Progress.{Progress}
 use Rattle.nv_core.specs.declared.progress.Progress.TheVariants as progress
@@ -14,56 +14,41 @@ use Rattle.nv_core.proofs.TagLists.{IsNext, get-other, get-set, next-stays, set-
 use Rattle.nv_entry.specs.StatusCode.{done_with}
 use Rattle.nv_entry.specs.declared.status_code.StatusCode.TheVariants.{Success}
 use Rattle.nv_laws_sound.proofs.Lists.{length-set, slice_get-there}
-use Rattle.nv_model.specs.Queue.{next_slot}
 use Rattle.nv_model.specs.Transcript.{ReadDone}
 use Rattle.nv_plan.specs.Made.{MadePlan, share_made, shares_made}
 use Rattle.nv_tags.specs.Tags.{Leads, Point, Slot, command_in, group, moved_to, slot_at, slot_or_free, state_at, state_of, with_point}
 use Rattle.nv_tags.specs.Tags as slot
 use Rattle.nv_tags.specs.declared.state.TagState.TheVariants as state
-use Rattle.nv_world_model.specs.Area.{ring_size}
 use Rattle.nv_world_model.specs.Share.{Share}
 use Rattle.nv_world_model.specs.ShareArea.{is_no_command}
-use Rattle.nv_world_model.specs.World.{Command, Ended, Flying, Lane, Queued, Tag, group_in, tag_changed}
+use Rattle.nv_world_model.specs.World.{Command, Ended, Flying, InDevice, Lane, Tag, group_in, tag_changed}
 
 -- ---- a tag with a share
 
-abbrev handed_tag : (nothing : Bool) → Command → Share → (at : ℕ) → Tag
-handed_tag nothing command share at = cond nothing (Ended command (done_with Success) (Some share)) (Flying command share (Queued at))
+abbrev handed_tag : (nothing : Bool) → Command → Share → Tag
+handed_tag nothing command share = cond nothing (Ended command (done_with Success) (Some share)) (Flying command share InDevice)
 
-has-command : (nothing : Bool) (command : Command) (share : Share) (at : ℕ) → HasCommand (handed_tag nothing command share at)
-has-command true command share at = tt
-has-command false command share at = tt
+has-command : (nothing : Bool) (command : Command) (share : Share) → HasCommand (handed_tag nothing command share)
+has-command true command share = tt
+has-command false command share = tt
 
-first-made : (ps : List Progress) (command : Command) (plan : MadePlan) (share : Share) (at : ℕ) (nothing : Bool) → share_made 0 plan ≡ Some share
-    → tag_made ps (slot.Used command (point_of nothing)) (first_kept nothing plan at) ≡ handed_tag nothing command share at
-first-made ps command plan share at true is = ap (λ (o : Option Share). ended_as command (done_with Success) o) is
-first-made ps command plan share at false is = ap (λ (o : Option Share). flying_as command o (Queued at)) is
+first-made : (ps : List Progress) (command : Command) (plan : MadePlan) (share : Share) (nothing : Bool) → share_made 0 plan ≡ Some share
+    → tag_made ps (slot.Used command (point_of nothing)) (first_kept nothing plan) ≡ handed_tag nothing command share
+first-made ps command plan share true is = ap (λ (o : Option Share). ended_as command (done_with Success) o) is
+first-made ps command plan share false is = ap (λ (o : Option Share). flying_as command o) is
 
-part-made : (ps : List Progress) (command : Command) (plan : MadePlan) (share : Share) (part at : ℕ) (nothing : Bool)
+part-made : (ps : List Progress) (command : Command) (plan : MadePlan) (share : Share) (part : ℕ) (nothing : Bool)
     → plan_in (slice_get ps command.leader) ≡ Some plan → share_made part plan ≡ Some share
-    → tag_made ps (slot.Used command (point_of nothing)) (part_kept nothing part at) ≡ handed_tag nothing command share at
-part-made ps command plan share part at true kept is =
+    → tag_made ps (slot.Used command (point_of nothing)) (part_kept nothing part) ≡ handed_tag nothing command share
+part-made ps command plan share part true kept is =
     ap (λ (o : Option MadePlan). ended_as command (done_with Success) (part_in part o)) kept
     ∙ ap (λ (o : Option Share). ended_as command (done_with Success) o) is
-part-made ps command plan share part at false kept is =
-    ap (λ (o : Option MadePlan). flying_as command (part_in part o) (Queued at)) kept ∙ ap (λ (o : Option Share). flying_as command o (Queued at)) is
+part-made ps command plan share part false kept is =
+    ap (λ (o : Option MadePlan). flying_as command (part_in part o)) kept ∙ ap (λ (o : Option Share). flying_as command o) is
 
-first-plan : (nothing : Bool) (plan : MadePlan) (at : ℕ) → plan_kept (first_kept nothing plan at) ≡ Some plan
-first-plan true plan at = refl
-first-plan false plan at = refl
-
--- one tag more
-handed-one : (others : List ℕ) (shares : List Share) (at tag : ℕ) (command : Command) (share : Share) (l : Lane)
-    → all_handed (tag ∷ others) (share ∷ shares) at command l
-    ≡ all_handed others shares (slot_behind (is_no_command share) at) command (tag_changed tag (handed_tag (is_no_command share) command share at) l)
-handed-one others shares at tag command share l = by (is_no_command share)
-  where
-    by : (b : Bool)
-        → cond b (all_handed others shares at command (tag_changed tag (Ended command (done_with Success) (Some share)) l))
-        (all_handed others shares (next_slot ring_size at) command (tag_changed tag (Flying command share (Queued at)) l))
-        ≡ all_handed others shares (slot_behind b at) command (tag_changed tag (handed_tag b command share at) l)
-    by true = refl
-    by false = refl
+first-plan : (nothing : Bool) (plan : MadePlan) → plan_kept (first_kept nothing plan) ≡ Some plan
+first-plan true plan = refl
+first-plan false plan = refl
 
 -- ---- tags that wait for their parts
 
@@ -95,29 +80,29 @@ waiting-next slots ps command tag s p t was used made =
       made = made;
     }
 
-part-next : (slots : List Slot) (ps : List Progress) (command : Command) (plan : MadePlan) (share : Share) (tag part at : ℕ) (nothing : Bool)
+part-next : (slots : List Slot) (ps : List Progress) (command : Command) (plan : MadePlan) (share : Share) (tag part : ℕ) (nothing : Bool)
     → IsWaiting slots ps command tag → plan_in (slice_get ps command.leader) ≡ Some plan → share_made part plan ≡ Some share
-    → IsNext slots ps tag (slot.Used command (point_of nothing)) (part_kept nothing part at) (handed_tag nothing command share at)
-part-next slots ps command plan share tag part at nothing was kept is =
-    let made = part-made ps command plan share part at nothing kept is in
-    waiting-next slots ps command tag (slot.Used command (point_of nothing)) (part_kept nothing part at) (handed_tag nothing command share at) was
-    (subst HasCommand (sym made) (has-command nothing command share at)) made
+    → IsNext slots ps tag (slot.Used command (point_of nothing)) (part_kept nothing part) (handed_tag nothing command share)
+part-next slots ps command plan share tag part nothing was kept is =
+    let made = part-made ps command plan share part nothing kept is in
+    waiting-next slots ps command tag (slot.Used command (point_of nothing)) (part_kept nothing part) (handed_tag nothing command share) was
+    (subst HasCommand (sym made) (has-command nothing command share)) made
 
-first-next : (slots : List Slot) (ps : List Progress) (command : Command) (plan : MadePlan) (share : Share) (tag at : ℕ) (nothing : Bool)
+first-next : (slots : List Slot) (ps : List Progress) (command : Command) (plan : MadePlan) (share : Share) (tag : ℕ) (nothing : Bool)
     → IsWaiting slots ps command tag → share_made 0 plan ≡ Some share
-    → IsNext slots ps tag (slot.Used command (point_of nothing)) (first_kept nothing plan at) (handed_tag nothing command share at)
-first-next slots ps command plan share tag at nothing was is =
-    let made = first-made ps command plan share at nothing is in
-    waiting-next slots ps command tag (slot.Used command (point_of nothing)) (first_kept nothing plan at) (handed_tag nothing command share at) was
-    (subst HasCommand (sym made) (has-command nothing command share at)) made
+    → IsNext slots ps tag (slot.Used command (point_of nothing)) (first_kept nothing plan) (handed_tag nothing command share)
+first-next slots ps command plan share tag nothing was is =
+    let made = first-made ps command plan share nothing is in
+    waiting-next slots ps command tag (slot.Used command (point_of nothing)) (first_kept nothing plan) (handed_tag nothing command share) was
+    (subst HasCommand (sym made) (has-command nothing command share)) made
 
 -- ---- further parts, where the plan is kept
 
-pub record AreHanded (head : ℕ) (phase : Bool) (slots : List Slot) (ps : List Progress) (others : List ℕ) (shares : List Share) (part at : ℕ)
+pub record AreHanded (head : ℕ) (phase : Bool) (slots : List Slot) (ps : List Progress) (others : List ℕ) (shares : List Share) (part : ℕ)
     (command : Command) (l : Lane) : Type 0 where
-  pub whole : IsWhole head (parts_slots others shares slots) (parts_kept others shares part at ps)
-  pub seen : (let new : Lane = record { head = head; phase = phase; tags = tags_of (parts_slots others shares slots) (parts_kept others shares part at ps) } in new)
-      ≡ all_handed others shares at command l
+  pub whole : IsWhole head (parts_slots others shares slots) (parts_kept others shares part ps)
+  pub seen : (let new : Lane = record { head = head; phase = phase; tags = tags_of (parts_slots others shares slots) (parts_kept others shares part ps) } in new)
+      ≡ all_handed others shares command l
 
 drop-first : {X : Type 0} (xs : List X) (i : ℕ) (x : X) (rest : List X) → x ∷ rest ≡ drop i xs → (slice_get xs i ≡ Some x) × (rest ≡ drop (i + 1) xs)
 drop-first [] zero x rest e = cc
@@ -130,23 +115,23 @@ drop-first (y ∷ ys) (suc i) x rest e =
     let more : suc (i + 1) ≡ suc i + 1 = omega arith in
     (both.0, both.1 ∙ ap (λ n. drop n (y ∷ ys)) more))
 
-handed : (head : ℕ) (phase : Bool) (command : Command) (plan : MadePlan) (others : List ℕ) (shares : List Share) (from part at : ℕ) (slots : List Slot)
+handed : (head : ℕ) (phase : Bool) (command : Command) (plan : MadePlan) (others : List ℕ) (shares : List Share) (from part : ℕ) (slots : List Slot)
     (ps : List Progress) (l : Lane) → IsWhole head slots ps → (let v : Lane = record { head = head; phase = phase; tags = tags_of slots ps } in v) ≡ l
     → IsRising from others → All (IsWaiting slots ps command) others → plan_in (slice_get ps command.leader) ≡ Some plan
-    → shares ≡ drop part (shares_made plan) → AreHanded head phase slots ps others shares part at command l
-handed head phase command plan [] shares from part at slots ps l whole view rise waiting kept are = record { whole = whole; seen = view }
-handed head phase command plan (tag ∷ others) [] from part at slots ps l whole view rise waiting kept are = record { whole = whole; seen = view }
-handed head phase command plan (tag ∷ others) (share ∷ shares) from part at slots ps l whole view rise waiting kept are =
+    → shares ≡ drop part (shares_made plan) → AreHanded head phase slots ps others shares part command l
+handed head phase command plan [] shares from part slots ps l whole view rise waiting kept are = record { whole = whole; seen = view }
+handed head phase command plan (tag ∷ others) [] from part slots ps l whole view rise waiting kept are = record { whole = whole; seen = view }
+handed head phase command plan (tag ∷ others) (share ∷ shares) from part slots ps l whole view rise waiting kept are =
     let nothing : Bool = is_no_command share in
     let s : Slot = slot.Used command (point_of nothing) in
-    let p : Progress = part_kept nothing part at in
-    let t : Tag = handed_tag nothing command share at in
+    let p : Progress = part_kept nothing part in
+    let t : Tag = handed_tag nothing command share in
     let new : List Slot = with_point (point_of nothing) tag slots in
     let both = drop-first (shares_made plan) part share shares are in
     let was : IsWaiting slots ps command tag = waiting 0 0 (omega arith) in
-    let next = part-next slots ps command plan share tag part at nothing was kept both.0 in
+    let next = part-next slots ps command plan share tag part nothing was kept both.0 in
     let moved = moved-slot slots tag command slot.Taken (point_of nothing) was.there in
-    let behind = handed head phase command plan others shares (tag + 1) (part + 1) (slot_behind nothing at) new (set ps tag p) (tag_changed tag t l)
+    let behind = handed head phase command plan others shares (tag + 1) (part + 1) new (set ps tag p) (tag_changed tag t l)
     (lane-whole head phase slots ps l whole view tag tag s p t new refl moved next
     (led-set slots tag s whole.led was.below (sym (ap command_in was.there))))
     (lane-changed head phase slots ps l whole view tag tag s p t new refl moved next)
@@ -157,7 +142,7 @@ handed head phase command plan (tag ∷ others) (share ∷ shares) from part at 
     (waiting (suc k) d (omega arith))))
     (next-stays slots ps (same head phase slots ps l whole view) whole.used tag s p t next command.leader plan kept)
     both.1 in
-    record { whole = behind.whole; seen = behind.seen ∙ sym (handed-one others shares at tag command share l) }
+    record { whole = behind.whole; seen = behind.seen }
 
 -- ---- the first part is handed on last
 
@@ -173,15 +158,15 @@ slots-apart (u ∷ tags) (share ∷ shares) slots tag from s low rise =
     ∙ set-apart slots tag u s (moved_to point (slot_at slots u)) (λ same. absurd (omega arith)) in
     ap (parts_slots tags shares) other ∙ slots-apart tags shares (with_point point u slots) tag (u + 1) s (omega arith) rise.1
 
-kept-apart : (tags : List ℕ) (shares : List Share) (part at : ℕ) (ps : List Progress) (tag from : ℕ) (p : Progress) → tag < from → IsRising from tags
-    → parts_kept tags shares part at (set ps tag p) ≡ set (parts_kept tags shares part at ps) tag p
-kept-apart [] shares part at ps tag from p low rise = refl
-kept-apart (u ∷ tags) [] part at ps tag from p low rise = refl
-kept-apart (u ∷ tags) (share ∷ shares) part at ps tag from p low rise =
+kept-apart : (tags : List ℕ) (shares : List Share) (part : ℕ) (ps : List Progress) (tag from : ℕ) (p : Progress) → tag < from → IsRising from tags
+    → parts_kept tags shares part (set ps tag p) ≡ set (parts_kept tags shares part ps) tag p
+kept-apart [] shares part ps tag from p low rise = refl
+kept-apart (u ∷ tags) [] part ps tag from p low rise = refl
+kept-apart (u ∷ tags) (share ∷ shares) part ps tag from p low rise =
     let first = rise.0 in
     let nothing : Bool = is_no_command share in
-    ap (parts_kept tags shares (part + 1) (slot_behind nothing at)) (set-apart ps tag u p (part_kept nothing part at) (λ same. absurd (omega arith)))
-    ∙ kept-apart tags shares (part + 1) (slot_behind nothing at) (set ps u (part_kept nothing part at)) tag (u + 1) p (omega arith) rise.1
+    ap (parts_kept tags shares (part + 1)) (set-apart ps tag u p (part_kept nothing part) (λ same. absurd (omega arith)))
+    ∙ kept-apart tags shares (part + 1) (set ps u (part_kept nothing part)) tag (u + 1) p (omega arith) rise.1
 
 slot-stays : (tags : List ℕ) (shares : List Share) (slots : List Slot) (tag from : ℕ) → tag < from → IsRising from tags
     → slot_at (parts_slots tags shares slots) tag ≡ slot_at slots tag
@@ -246,18 +231,18 @@ module _ (head : ℕ) (phase : Bool) (slots : List Slot) (ps : List Progress) (o
   tag-below = (let below = tag-waiting.below in let even = same head phase slots ps old whole view in omega arith)
 
   -- the other parts are handed on, and the first one waits
-  module _ (plan : MadePlan) (at : ℕ) (some : 0 < length (shares_made plan)) (nothing : Bool)
-      (is : (share : Share) → share_made 0 plan ≡ Some share → nothing ≡ is_no_command share) (next : ℕ) (behind : next ≡ slot_behind nothing at)
+  module _ (plan : MadePlan) (some : 0 < length (shares_made plan)) (nothing : Bool)
+      (is : (share : Share) → share_made 0 plan ≡ Some share → nothing ≡ is_no_command share)
       (slots_then : List Slot) (slots_are : slots_then ≡ parts_slots (drop 1 (group tag slots)) (drop 1 (shares_made plan)) slots)
-      (kept_then : List Progress) (kept_are : kept_then ≡ parts_kept (drop 1 (group tag slots)) (drop 1 (shares_made plan)) 1 next ps) where
+      (kept_then : List Progress) (kept_are : kept_then ≡ parts_kept (drop 1 (group tag slots)) (drop 1 (shares_made plan)) 1 ps) where
     abbrev rest : List Share
     rest = drop 1 (shares_made plan)
 
     slots-others : slots_then ≡ parts_slots others rest slots
     slots-others = slots_are ∙ ap (λ (ts : List ℕ). parts_slots (drop 1 ts) rest slots) front
 
-    kept-others : kept_then ≡ parts_kept others rest 1 next ps
-    kept-others = kept_are ∙ ap (λ (ts : List ℕ). parts_kept (drop 1 ts) rest 1 next ps) front
+    kept-others : kept_then ≡ parts_kept others rest 1 ps
+    kept-others = kept_are ∙ ap (λ (ts : List ℕ). parts_kept (drop 1 ts) rest 1 ps) front
 
     first-slot : slot_at slots_then tag ≡ slot.Used t.command slot.Taken
     first-slot =
@@ -273,24 +258,24 @@ module _ (head : ℕ) (phase : Bool) (slots : List Slot) (ps : List Progress) (o
     abbrev first_slot : Slot
     first_slot = slot.Used t.command (point_of nothing)
 
-    first-step : IsNext slots ps tag first_slot (first_kept nothing plan at) (handed_tag nothing t.command share-there.0 at)
-    first-step = first-next slots ps t.command plan share-there.0 tag at nothing tag-waiting share-there.1
+    first-step : IsNext slots ps tag first_slot (first_kept nothing plan) (handed_tag nothing t.command share-there.0)
+    first-step = first-next slots ps t.command plan share-there.0 tag nothing tag-waiting share-there.1
 
-    after : AreHanded head phase (set slots tag first_slot) (set ps tag (first_kept nothing plan at)) others rest 1 next t.command
-        (tag_changed tag (handed_tag nothing t.command share-there.0 at) old)
+    after : AreHanded head phase (set slots tag first_slot) (set ps tag (first_kept nothing plan)) others rest 1 t.command
+        (tag_changed tag (handed_tag nothing t.command share-there.0) old)
     after =
-        handed head phase t.command plan others rest (tag + 1) 1 next (set slots tag first_slot) (set ps tag (first_kept nothing plan at))
-        (tag_changed tag (handed_tag nothing t.command share-there.0 at) old)
-        (lane-whole head phase slots ps old whole view tag tag first_slot (first_kept nothing plan at) (handed_tag nothing t.command share-there.0 at)
+        handed head phase t.command plan others rest (tag + 1) 1 (set slots tag first_slot) (set ps tag (first_kept nothing plan))
+        (tag_changed tag (handed_tag nothing t.command share-there.0) old)
+        (lane-whole head phase slots ps old whole view tag tag first_slot (first_kept nothing plan) (handed_tag nothing t.command share-there.0)
         (set slots tag first_slot) refl refl first-step (led-set slots tag first_slot whole.led tag-waiting.below (sym (ap command_in tag-waiting.there))))
-        (lane-changed head phase slots ps old whole view tag tag first_slot (first_kept nothing plan at) (handed_tag nothing t.command share-there.0 at)
+        (lane-changed head phase slots ps old whole view tag tag first_slot (first_kept nothing plan) (handed_tag nothing t.command share-there.0)
         (set slots tag first_slot) refl refl first-step)
         rises
         (λ k d within.
         (let above = rising-above (tag + 1) others rises k d within in
-        waiting-behind slots ps t.command tag (get_or others k d) first_slot (first_kept nothing plan at) (λ same. absurd (omega arith)) (others-waiting k d within)))
-        (ap (λ (n : ℕ). plan_in (slice_get (set ps tag (first_kept nothing plan at)) n)) t.led
-        ∙ ap plan_in (get-set ps tag (first_kept nothing plan at) tag-below) ∙ first-plan nothing plan at)
+        waiting-behind slots ps t.command tag (get_or others k d) first_slot (first_kept nothing plan) (λ same. absurd (omega arith)) (others-waiting k d within)))
+        (ap (λ (n : ℕ). plan_in (slice_get (set ps tag (first_kept nothing plan)) n)) t.led
+        ∙ ap plan_in (get-set ps tag (first_kept nothing plan) tag-below) ∙ first-plan nothing plan)
         refl
 
     -- as it is done
@@ -300,22 +285,22 @@ module _ (head : ℕ) (phase : Bool) (slots : List Slot) (ps : List Progress) (o
         ∙ ap (λ (xs : List Slot). set xs tag first_slot) slots-others
         ∙ sym (slots-apart others rest slots tag (tag + 1) first_slot (omega arith) rises)
 
-    kept-done : (i : ℕ) (p : Progress) → i ≡ tag → p ≡ first_kept nothing plan at
-        → set kept_then i p ≡ parts_kept others rest 1 next (set ps tag (first_kept nothing plan at))
+    kept-done : (i : ℕ) (p : Progress) → i ≡ tag → p ≡ first_kept nothing plan
+        → set kept_then i p ≡ parts_kept others rest 1 (set ps tag (first_kept nothing plan))
     kept-done i p number made =
         ap (λ (k : ℕ). set kept_then k p) number ∙ ap (set kept_then tag) made
-        ∙ ap (λ (xs : List Progress). set xs tag (first_kept nothing plan at)) kept-others
-        ∙ sym (kept-apart others rest 1 next ps tag (tag + 1) (first_kept nothing plan at) (omega arith) rises)
+        ∙ ap (λ (xs : List Progress). set xs tag (first_kept nothing plan)) kept-others
+        ∙ sym (kept-apart others rest 1 ps tag (tag + 1) (first_kept nothing plan) (omega arith) rises)
 
-    pub flown-whole : (new : List Slot) (i : ℕ) (p : Progress) → new ≡ with_point (point_of nothing) tag slots_then → i ≡ tag → p ≡ first_kept nothing plan at
+    pub flown-whole : (new : List Slot) (i : ℕ) (p : Progress) → new ≡ with_point (point_of nothing) tag slots_then → i ≡ tag → p ≡ first_kept nothing plan
         → IsWhole head new (set kept_then i p)
     flown-whole new i p changed number made =
         subst (λ (n : List Slot). IsWhole head n (set kept_then i p)) (sym (slots-done new changed))
         (subst (λ (k : List Progress). IsWhole head (parts_slots others rest (set slots tag first_slot)) k) (sym (kept-done i p number made)) after.whole)
 
-    pub flown-changed : (new : List Slot) (i : ℕ) (p : Progress) → new ≡ with_point (point_of nothing) tag slots_then → i ≡ tag → p ≡ first_kept nothing plan at
+    pub flown-changed : (new : List Slot) (i : ℕ) (p : Progress) → new ≡ with_point (point_of nothing) tag slots_then → i ≡ tag → p ≡ first_kept nothing plan
         → (let l : Lane = record { head = head; phase = phase; tags = tags_of new (set kept_then i p) } in l)
-        ≡ all_handed (group_in (Some old) tag) (shares_made plan) at t.command old
+        ≡ all_handed (group_in (Some old) tag) (shares_made plan) t.command old
     flown-changed new i p changed number made =
         (let whole_is = lane-group head phase slots ps old whole view tag ∙ front in
         let nothing_is = is share-there.0 share-there.1 in
@@ -323,8 +308,6 @@ module _ (head : ℕ) (phase : Bool) (slots : List Slot) (ps : List Progress) (o
         ∙ ap (λ (k : List Progress). let l : Lane = record { head = head; phase = phase; tags = tags_of (parts_slots others rest (set slots tag first_slot)) k } in l)
         (kept-done i p number made)
         ∙ after.seen
-        ∙ ap (λ (n : ℕ). all_handed others rest n t.command (tag_changed tag (handed_tag nothing t.command share-there.0 at) old)) behind
-        ∙ ap (λ (b : Bool). all_handed others rest (slot_behind b at) t.command (tag_changed tag (handed_tag b t.command share-there.0 at) old)) nothing_is
-        ∙ sym (handed-one others rest at tag t.command share-there.0 old)
-        ∙ sym (ap (λ (ss : List Share). all_handed (tag ∷ others) ss at t.command old) (drop-front (shares_made plan) 0 share-there.0 share-there.1))
-        ∙ sym (ap (λ (ts : List ℕ). all_handed ts (shares_made plan) at t.command old) whole_is))
+        ∙ ap (λ (b : Bool). all_handed others rest t.command (tag_changed tag (handed_tag b t.command share-there.0) old)) nothing_is
+        ∙ sym (ap (λ (ss : List Share). all_handed (tag ∷ others) ss t.command old) (drop-front (shares_made plan) 0 share-there.0 share-there.1))
+        ∙ sym (ap (λ (ts : List ℕ). all_handed ts (shares_made plan) t.command old) whole_is))

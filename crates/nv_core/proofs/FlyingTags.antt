@@ -1,15 +1,13 @@
--- Tags whose parts were handed on: where they stand, and how they end.
+-- Tags whose parts were handed on: how they end.
 use Rattle.std.proofs.Common.{◌≡◌, ℕ, ◌<◌, Bool, List, length, set, slice_get, Option, Some, None, refl, sym, ap, ◌∙◌, subst}
-use Rattle.nv_core.specs.Handing.{part_ended, stood_at}
-use Rattle.nv_core.specs.Tags.{HasCommand, IsUsed, IsWhole, ended_as, ended_tag, flying_as, flying_tag, part_in, plan_in, plan_kept, standing_of, state_in}
+use Rattle.nv_core.specs.Handing.{part_ended}
+use Rattle.nv_core.specs.Tags.{HasCommand, IsUsed, IsWhole, ended_as, ended_tag, flying_as, flying_tag, part_in, plan_in, plan_kept, state_in}
 use Rattle.nv_core.specs.Tags.{tag_made, tags_of}
 use Rattle.nv_core.specs.declared.progress.Progress.{Progress}
 use Rattle.nv_core.specs.declared.progress.Progress.TheVariants as progress
-use Rattle.nv_core.specs.declared.standing.Standing.{Standing as Place}
 use Rattle.nv_core.proofs.LaneTags.{lane-changed, lane-kept, lane-whole, led-set, moved-slot}
 use Rattle.nv_core.proofs.TagLists.{IsNext, made-at, slot-got}
 use Rattle.nv_entry.specs.Status.{StatusField}
-use Rattle.nv_laws_sound.proofs.Lists.{set-same}
 use Rattle.nv_plan.specs.Made.{MadePlan, share_made}
 use Rattle.nv_tags.specs.Tags.{Point, Slot, command_in, slot_at, with_point}
 use Rattle.nv_tags.specs.Tags as slot
@@ -48,52 +46,27 @@ flying-slot kept (slot.Used c (slot.Ended st)) p command share standing is e =
     let at = made-at kept c (slot.Ended st) p is in
     let other : Flying command share standing ≡ Ended c st at.0 = sym e ∙ at.1 in cc
 
--- it stands elsewhere now
-as-stands : (command : Command) (o : Option Share) (share : Share) (before standing now : Standing) → flying_as command o before ≡ Flying command share standing
-    → flying_as command o now ≡ Flying command share now
-as-stands command None share before standing now e = cc
-as-stands command (Some s) share before standing now e = let same : s ≡ share = cc in ap (λ (x : Share). Flying command x now) same
-
-stood-made : (led : Option MadePlan) (command : Command) (p : Progress) (share : Share) (standing : Standing) (at : Place)
-    → flying_tag led command p ≡ Flying command share standing → flying_tag led command (stood_at at p) ≡ Flying command share (standing_of at)
-stood-made led command progress.Nothing share standing at e = cc
-stood-made led command (progress.Reading reads) share standing at e = cc
-stood-made led command (progress.Going plan before) share standing at e =
-    as-stands command (share_made 0 plan) share (standing_of before) standing (standing_of at) e
-stood-made led command (progress.Over plan) share standing at e = cc
-stood-made led command (progress.Part part before) share standing at e =
-    as-stands command (part_in part led) share (standing_of before) standing (standing_of at) e
-stood-made led command (progress.PartOver part) share standing at e = cc
-
-stood-plan : (at : Place) (p : Progress) → plan_kept (stood_at at p) ≡ plan_kept p
-stood-plan at progress.Nothing = refl
-stood-plan at (progress.Reading reads) = refl
-stood-plan at (progress.Going plan before) = refl
-stood-plan at (progress.Over plan) = refl
-stood-plan at (progress.Part part before) = refl
-stood-plan at (progress.PartOver part) = refl
-
 -- it has ended
-as-ended : (command : Command) (o : Option Share) (share : Share) (before standing : Standing) (st : StatusField)
-    → flying_as command o before ≡ Flying command share standing → ended_as command st o ≡ Ended command st (Some share)
-as-ended command None share before standing st e = cc
-as-ended command (Some s) share before standing st e = let same : s ≡ share = cc in ap (λ (x : Share). Ended command st (Some x)) same
+as-ended : (command : Command) (o : Option Share) (share : Share) (standing : Standing) (st : StatusField)
+    → flying_as command o ≡ Flying command share standing → ended_as command st o ≡ Ended command st (Some share)
+as-ended command None share standing st e = cc
+as-ended command (Some s) share standing st e = let same : s ≡ share = cc in ap (λ (x : Share). Ended command st (Some x)) same
 
 ended-made : (led : Option MadePlan) (command : Command) (p : Progress) (share : Share) (standing : Standing) (st : StatusField)
     → flying_tag led command p ≡ Flying command share standing → ended_tag led command st (part_ended p) ≡ Ended command st (Some share)
 ended-made led command progress.Nothing share standing st e = cc
 ended-made led command (progress.Reading reads) share standing st e = cc
-ended-made led command (progress.Going plan before) share standing st e = as-ended command (share_made 0 plan) share (standing_of before) standing st e
+ended-made led command (progress.Going plan) share standing st e = as-ended command (share_made 0 plan) share standing st e
 ended-made led command (progress.Over plan) share standing st e = cc
-ended-made led command (progress.Part part before) share standing st e = as-ended command (part_in part led) share (standing_of before) standing st e
+ended-made led command (progress.Part part) share standing st e = as-ended command (part_in part led) share standing st e
 ended-made led command (progress.PartOver part) share standing st e = cc
 
 ended-plan : (p : Progress) → plan_kept (part_ended p) ≡ plan_kept p
 ended-plan progress.Nothing = refl
 ended-plan (progress.Reading reads) = refl
-ended-plan (progress.Going plan before) = refl
+ended-plan (progress.Going plan) = refl
 ended-plan (progress.Over plan) = refl
-ended-plan (progress.Part part before) = refl
+ended-plan (progress.Part part) = refl
 ended-plan (progress.PartOver part) = refl
 
 -- ---- in a lane
@@ -125,39 +98,6 @@ module _ (head : ℕ) (phase : Bool) (slots : List Slot) (ps : List Progress) (o
 
   flies-led : (point : Point) → (f : FliesAt slots ps tag command share standing) → command_in (slot.Used command point) ≡ command_in (slot_at slots tag)
   flies-led point f = sym (ap command_in f.slot_is)
-
-  -- where it stands
-  stands-next : (place : Place) (p : Progress) → (f : FliesAt slots ps tag command share standing) → p ≡ stood_at place f.progress
-      → IsNext slots ps tag (slot.Used command slot.Flying) p (Flying command share (standing_of place))
-  stands-next place p f is =
-      let made : tag_made ps (slot.Used command slot.Flying) p ≡ Flying command share (standing_of place) =
-      ap (λ (q : Progress). tag_made ps (slot.Used command slot.Flying) q) is
-      ∙ stood-made (plan_in (slice_get ps command.leader)) command f.progress share standing place f.made in
-      record {
-        below = f.below;
-        before = f.progress;
-        before_is = f.progress_is;
-        stays = λ plan kept. ap plan_kept is ∙ stood-plan place f.progress ∙ kept;
-        used = subst HasCommand (sym made) tt;
-        made = made;
-      }
-
-  stands-slot : FliesAt slots ps tag command share standing → slots ≡ set slots tag (slot.Used command slot.Flying)
-  stands-slot f = sym (set-same slots tag (slot.Used command slot.Flying) f.there)
-
-  pub stands-whole : (i : ℕ) (place : Place) (p : Progress) → (f : FliesAt slots ps tag command share standing) → i ≡ tag → p ≡ stood_at place f.progress
-      → IsWhole head slots (set ps i p)
-  stands-whole i place p f number is =
-      lane-whole head phase slots ps old whole view tag i (slot.Used command slot.Flying) p (Flying command share (standing_of place)) slots number
-      (stands-slot f) (stands-next place p f is)
-      (led-set slots tag (slot.Used command slot.Flying) whole.led f.below (flies-led slot.Flying f))
-
-  pub stands-changed : (i : ℕ) (place : Place) (p : Progress) → (f : FliesAt slots ps tag command share standing) → i ≡ tag → p ≡ stood_at place f.progress
-      → (let l : Lane = record { head = head; phase = phase; tags = tags_of slots (set ps i p) } in l)
-      ≡ tag_changed tag (Flying command share (standing_of place)) old
-  stands-changed i place p f number is =
-      lane-changed head phase slots ps old whole view tag i (slot.Used command slot.Flying) p (Flying command share (standing_of place)) slots number
-      (stands-slot f) (stands-next place p f is)
 
   -- how it ends
   ends-next : (st : StatusField) (p : Progress) → (f : FliesAt slots ps tag command share standing) → p ≡ part_ended f.progress

@@ -1,18 +1,19 @@
 -- What a call of a front comes to in the worlds that have its side, and what its side keeps.
 use Rattle.std.proofs.Common.{◌≡◌, ℕ, List, [], length, slice_get, Some, refl, sym, ap, ◌∙◌, subst}
+use Rattle.nv_core.proofs.Alike.{kept-alike}
+use Rattle.nv_core.proofs.Besides.{beside-of}
 use Rattle.nv_core.proofs.Delegated.{tails-opening, tails-rung}
 use Rattle.nv_core.proofs.KeptStates.{kept-consistent, kept-world, length-tails, tail-of}
-use Rattle.nv_core.proofs.Sides.{own-side, own-world}
-use Rattle.nv_core.specs.Front.{IsBeside, IsReaped, IsSideOf, IsSideStep, IsStepBeside, Side, opening_side, rung_with, tails_of, with_side}
+use Rattle.nv_core.proofs.Sides.{in-each, own-side, own-world}
+use Rattle.nv_core.specs.Front.{ComesTo, IsBeside, IsReaped, IsSideOf, IsSideStep, IsStepBeside, IsStepInEach, Side, opening_side, rung_with, tails_of, with_side}
 use Rattle.nv_core.specs.Kept.{AreKept, IsKept, IsLent}
 use Rattle.nv_laws_sound.proofs.ControllersSide.{side-alone}
 use Rattle.nv_laws_sound.proofs.KeptEvents.{reaped-kept, step-kept}
 use Rattle.nv_laws_sound.proofs.Openings.{opening-consistent}
-use Rattle.nv_laws_sound.proofs.Unplaced.{placed-alike}
 use Rattle.nv_laws_sound.specs.Kept.{IsKeptWorld}
 use Rattle.nv_laws_sound.specs.LaidOut.{IsLaidOut}
 use Rattle.nv_laws_sound.specs.Mediators.{IsMediators}
-use Rattle.nv_laws_sound.specs.Unplaced.{IsControllers, after_unplaced, unplaced}
+use Rattle.nv_laws_sound.specs.Unplaced.{IsControllers, after_unplaced}
 use Rattle.nv_model.specs.Controller.{Controller}
 use Rattle.nv_model.specs.Memory.{byte_in}
 use Rattle.nv_model.specs.declared.reply.Reply.{Reply}
@@ -27,36 +28,32 @@ use Rattle.nv_world_model.specs.declared.event.Event.{Event}
 tails-new : (ts : List ℕ) (ds : List DeviceLane) → length ts ≡ length (tails_of ds) → tails_of (rung_with ts ds) ≡ ts
 tails-new ts ds many = tails-rung ds ts (many ∙ length-tails ds)
 
-module _ (geometry : Geometry) (e : Event) (mine : IsMediators e) (old new : Side) (before after : List ℕ) (r : Reply)
-    (is : IsSideStep geometry e old before r new after) (many : length new.tails ≡ length old.tails) where
-  -- a call is a step of each world that has its side but for the places of parts
-  pub step-beside : (w : World) → IsBeside old before w → IsStepBeside geometry e w r new after
-  step-beside w on = record {
-    reply = ap (λ (a : After). a.reply) alike;
-    world = record {
-      host = ap (λ (a : After). a.world.host) alike;
-      lanes = ap (λ (a : After). a.world.lanes) alike;
-      controllers = ap (λ (a : After). a.world.controllers) alike;
-      tails =
-          ap (λ (a : After). tails_of a.world.device) alike
-          ∙ tails-new new.tails w.device (many ∙ ap (λ (ts : List ℕ). length ts) (sym on.tails));
-    };
-  }
-    where
-      -- the same world with the places that the side has
-      v : World
-      v = record w { lanes = old.lanes }
+-- what a call comes to in a world that has its side but for the places of parts
+pub comes-beside : (geometry : Geometry) (e : Event) (old new : Side) (before after : List ℕ) (r : Reply) (w : World) → ComesTo geometry e w r new after
+    → length new.tails ≡ length old.tails → IsBeside old before w → IsStepBeside geometry e w r new after
+comes-beside geometry e old new before after r w comes many on =
+    record {
+      reply = sym (ap (λ (a : After). a.reply) comes);
+      world = record {
+        host = sym (ap (λ (a : After). a.world.host) comes);
+        lanes = sym (ap (λ (a : After). a.world.lanes) comes);
+        controllers = sym (ap (λ (a : After). a.world.controllers) comes);
+        tails =
+            sym (ap (λ (a : After). tails_of a.world.device) comes)
+            ∙ tails-new new.tails w.device (many ∙ ap (λ (ts : List ℕ). length ts) (sym on.tails));
+      };
+    }
 
-      left : unplaced v ≡ unplaced w
-      left = ap (λ (ls : List Lane). let u : World = record w { lanes = ls } in u) (sym on.lanes)
+-- a call is a step of each world that has its side but for the places of parts
+pub in-beside : (geometry : Geometry) (e : Event) → IsMediators e → (old new : Side) (before after : List ℕ) (r : Reply)
+    → IsSideStep geometry e old before r new after → IsStepInEach geometry e old before r new after
+in-beside geometry e mine old new before after r is = in-each geometry e old new before after r mine (λ w on. ap after_unplaced (is w on))
 
-      made : (let a : After = record { world = with_side new after v; reply = r } in a) ≡ step geometry e v
-      made = is v (record { host = on.host; lanes = refl; controllers = on.controllers; tails = on.tails })
-
-      alike : after_unplaced (step geometry e w) ≡ after_unplaced (let a : After = record { world = with_side new after v; reply = r } in a)
-      alike =
-          sym (placed-alike geometry e w mine) ∙ ap (λ (u : World). after_unplaced (step geometry e u)) (sym left) ∙ placed-alike geometry e v mine
-          ∙ ap after_unplaced (sym made)
+pub step-beside : (geometry : Geometry) (e : Event) → IsMediators e → (old new : Side) (before after : List ℕ) (r : Reply)
+    → IsSideStep geometry e old before r new after → length new.tails ≡ length old.tails → (w : World) → IsBeside old before w
+    → IsStepBeside geometry e w r new after
+step-beside geometry e mine old new before after r is many w on =
+    comes-beside geometry e old new before after r w (in-beside geometry e mine old new before after r is w on) many on
 
 -- what a world with this side keeps is what the side keeps
 pub own-kept : (geometry : Geometry) (side : Side) (memory : List ℕ) → IsKept geometry side → IsKeptWorld geometry (own-world side memory)
@@ -89,16 +86,28 @@ lent-new geometry old new before after many sized lent kept =
       kept = kept;
     }
 
+-- what a side keeps after a call
+pub each-lent : (geometry : Geometry) (e : Event) → IsMediators e → (old new : Side) (before after : List ℕ) (r : Reply)
+    → IsStepInEach geometry e old before r new after → length new.tails ≡ length old.tails → length after ≡ length before
+    → IsLent geometry old before → IsLent geometry new after
+each-lent geometry e mine old new before after r is many sized lent =
+    let w : World = own-world old before in
+    let on = own-side old before in
+    let now : World = (step geometry e w).world in
+    let comes = is w (beside-of old before w on) in
+    let kept = kept-world geometry now (step-kept (length before) geometry e w mine lent.laid_out (own-kept geometry old before lent.kept)) in
+    let tails : tails_of now.device ≡ new.tails =
+    sym (ap (λ (a : After). tails_of a.world.device) comes) ∙ tails-new new.tails w.device (many ∙ ap (λ (ts : List ℕ). length ts) (sym on.tails)) in
+    lent-new geometry old new before after many sized lent
+    (subst (λ (cs : List Controller). AreKept geometry new.lanes new.tails cs) (sym (ap (λ (a : After). a.world.controllers) comes))
+    (subst (λ (ts : List ℕ). AreKept geometry new.lanes ts now.controllers) tails
+    (kept-alike geometry new.lanes now.lanes (tails_of now.device) now.controllers (ap (λ (a : After). a.world.lanes) comes) kept)))
+
 pub step-lent : (geometry : Geometry) (e : Event) → IsMediators e → (old new : Side) (before after : List ℕ) (r : Reply)
     → IsSideStep geometry e old before r new after → length new.tails ≡ length old.tails → length after ≡ length before
     → IsLent geometry old before → IsLent geometry new after
 step-lent geometry e mine old new before after r is many sized lent =
-    let w : World = own-world old before in
-    let made = is w (own-side old before) in
-    lent-new geometry old new before after many sized lent
-    (side-kept geometry old new before after many
-    (subst (IsKeptWorld geometry) (sym (ap (λ (a : After). a.world) made))
-    (step-kept (length before) geometry e w mine lent.laid_out (own-kept geometry old before lent.kept))))
+    each-lent geometry e mine old new before after r (in-beside geometry e mine old new before after r is) many sized lent
 
 pub reaped-lent : (geometry : Geometry) (lane : ℕ) (l : Lane) (old new : Side) (memory : List ℕ) → slice_get old.lanes lane ≡ Some l
     → IsReaped geometry lane old new memory → new.tails ≡ old.tails → IsLent geometry old memory → IsLent geometry new memory

@@ -4,7 +4,7 @@ use Rattle.std.proofs.Common.{slice_get, Option, Some, None, inl, inr, refl, sym
 use Rattle.std.proofs.lemmas.Bool.{cases_lt}
 use Rattle.std.proofs.lemmas.List.Elements.{All-tail}
 use Rattle.std.proofs.lemmas.Option.{slice_get_past}
-use Rattle.nv_core.specs.Handing.{IsRising, part_kept, parts_kept, parts_slots, point_of, slot_behind}
+use Rattle.nv_core.specs.Handing.{IsRising, part_kept, parts_kept, parts_slots, point_of}
 use Rattle.nv_core.specs.declared.progress.Progress.{Progress}
 use Rattle.nv_core.proofs.GroupTags.{rising-above, rising-from}
 use Rattle.nv_core.proofs.TagLists.{get-other}
@@ -34,10 +34,10 @@ no-slots [] shares slots none = refl
 no-slots (tag ∷ tags) [] slots none = refl
 no-slots (tag ∷ tags) (share ∷ shares) slots none = cc
 
-pub no-kept : (tags : List ℕ) (shares : List Share) (part at : ℕ) (kept : List Progress) → shares ≡ [] → kept ≡ parts_kept tags shares part at kept
-no-kept [] shares part at kept none = refl
-no-kept (tag ∷ tags) [] part at kept none = refl
-no-kept (tag ∷ tags) (share ∷ shares) part at kept none = cc
+pub no-kept : (tags : List ℕ) (shares : List Share) (part : ℕ) (kept : List Progress) → shares ≡ [] → kept ≡ parts_kept tags shares part kept
+no-kept [] shares part kept none = refl
+no-kept (tag ∷ tags) [] part kept none = refl
+no-kept (tag ∷ tags) (share ∷ shares) part kept none = cc
 
 -- one part
 pub one-slots : (tags left : List ℕ) (shares rest : List Share) (slots new : List Slot) (tag : ℕ) (share : Share) (nothing : Bool)
@@ -47,14 +47,12 @@ one-slots tags left shares rest slots new tag share nothing are parts is changed
     ap (parts_slots left rest) (changed ∙ ap (λ (b : Bool). with_point (point_of b) tag slots) is)
     ∙ sym (ap (λ (ts : List ℕ). parts_slots ts shares slots) are ∙ ap (λ (ss : List Share). parts_slots (tag ∷ left) ss slots) parts)
 
-pub one-kept : (tags left : List ℕ) (shares rest : List Share) (kept new : List Progress) (tag part at next : ℕ) (share : Share) (p : Progress) (nothing : Bool)
-    → tags ≡ tag ∷ left → shares ≡ share ∷ rest → nothing ≡ is_no_command share → p ≡ part_kept nothing part at → new ≡ set kept tag p
-    → next ≡ slot_behind nothing at → parts_kept left rest (part + 1) next new ≡ parts_kept tags shares part at kept
-one-kept tags left shares rest kept new tag part at next share p nothing are parts is made changed behind =
-    ap (λ (n : ℕ). parts_kept left rest (part + 1) n new) (behind ∙ ap (λ (b : Bool). slot_behind b at) is)
-    ∙ ap (parts_kept left rest (part + 1) (slot_behind (is_no_command share) at))
-    (changed ∙ ap (set kept tag) (made ∙ ap (λ (b : Bool). part_kept b part at) is))
-    ∙ sym (ap (λ (ts : List ℕ). parts_kept ts shares part at kept) are ∙ ap (λ (ss : List Share). parts_kept (tag ∷ left) ss part at kept) parts)
+pub one-kept : (tags left : List ℕ) (shares rest : List Share) (kept new : List Progress) (tag part : ℕ) (share : Share) (p : Progress) (nothing : Bool)
+    → tags ≡ tag ∷ left → shares ≡ share ∷ rest → nothing ≡ is_no_command share → p ≡ part_kept nothing part → new ≡ set kept tag p
+    → parts_kept left rest (part + 1) new ≡ parts_kept tags shares part kept
+one-kept tags left shares rest kept new tag part share p nothing are parts is made changed =
+    ap (parts_kept left rest (part + 1)) (changed ∙ ap (set kept tag) (made ∙ ap (λ (b : Bool). part_kept b part) is))
+    ∙ sym (ap (λ (ts : List ℕ). parts_kept ts shares part kept) are ∙ ap (λ (ss : List Share). parts_kept (tag ∷ left) ss part kept) parts)
 
 -- ---- tags that are left
 

@@ -39,9 +39,9 @@ taken-kept kept (slot.Used c slot.Taken) (progress.Reading others) command reads
   where
     reading : (others reads : List ReadDone) → Taken c others ≡ Taken command reads → others ≡ reads
     reading others reads same = cc
-taken-kept kept (slot.Used c slot.Taken) (progress.Going plan at) command reads is e = absurd is
+taken-kept kept (slot.Used c slot.Taken) (progress.Going plan) command reads is e = absurd is
 taken-kept kept (slot.Used c slot.Taken) (progress.Over plan) command reads is e = absurd is
-taken-kept kept (slot.Used c slot.Taken) (progress.Part part at) command reads is e = absurd is
+taken-kept kept (slot.Used c slot.Taken) (progress.Part part) command reads is e = absurd is
 taken-kept kept (slot.Used c slot.Taken) (progress.PartOver part) command reads is e = absurd is
 taken-kept kept (slot.Used c slot.Flying) p command reads is e =
     let at = made-at kept c slot.Flying p is in

@@ -49,3 +49,5 @@ pub mod HandedParts
 pub mod FlownTags
 pub mod Besides
 pub mod FrontLaws
+pub mod Alike
+pub mod PlacesFollow

@@ -1,8 +1,9 @@
 -- The world at its start, on lists: what lists of one value are as functions.
-use Rattle.std.proofs.Common.{◌≡◌, ℕ, ◌≤◌, inl, inr, Bool, false, List, [], get_or, length, replicate, slice_index, arith, refl, sym, subst, ap, ◌∙◌}
+use Rattle.std.proofs.Common.{◌≡◌, ℕ, zero, suc, ◌+◌, ◌≤◌, ◌∷◌, inl, inr, Bool, false, List, [], get_or, length, replicate, slice_index, arith, refl, sym, subst, ap, ◌∙◌}
 use mathlib.Core.Path.{fun_ext}
 use Rattle.std.proofs.lemmas.Bool.{cases_lt}
 use Rattle.std.proofs.lemmas.List.{get_or-replicate, get_or_past, length-replicate}
+use Rattle.nv_core.specs.Places.{place_of, placed_lanes, placed_tags}
 use Rattle.nv_core.specs.State.{IsOpening, State}
 use Rattle.nv_device.specs.Physical.{opening_physical}
 use Rattle.nv_device.specs.State.{Physical}
@@ -11,8 +12,10 @@ use Rattle.nv_model.specs.Limits.{block}
 use Rattle.nv_model.specs.Memory.{byte_in}
 use Rattle.nv_disk.specs.Flat.{byte_of_block}
 use Rattle.nv_disk.specs.Marks.{mark_of}
+use Rattle.nv_world_model.specs.Area.{tag_count}
+use Rattle.nv_world_model.specs.Device.{DeviceLane}
 use Rattle.nv_world_model.specs.Geometry.{Geometry}
-use Rattle.nv_world_model.specs.World.{Lane, World, opening_lane, opening_world}
+use Rattle.nv_world_model.specs.World.{Free, Lane, Standing, Tag, World, opening_lane, opening_world}
 
 -- a list of one value, read where what stands beyond it is that value, too
 reads-one : {X : Type 0} (n i : ℕ) (x : X) → get_or (replicate n x) i x ≡ x
@@ -98,3 +101,18 @@ opening-of geometry g host_bytes lanes n s same h d l c many =
           controllers = s.controllers;
         } in t) l
         ∙ ap all c
+
+-- ---- no part has a place
+
+free-placed : (place : ℕ → Standing) (from n : ℕ) → placed_tags place from (replicate n Free) ≡ replicate n Free
+free-placed place from zero = refl
+free-placed place from (suc n) = ap (λ (ts : List Tag). Free ∷ ts) (free-placed place (from + 1) n)
+
+pub opening-placed : (mediator from : ℕ) (host : ℕ → ℕ) (ds : List DeviceLane) (n : ℕ)
+    → placed_lanes mediator from host ds (replicate n opening_lane) ≡ replicate n opening_lane
+opening-placed mediator from host ds zero = refl
+opening-placed mediator from host [] (suc n) = refl
+opening-placed mediator from host (d ∷ ds) (suc n) =
+    ap (λ (ts : List Tag). (let l : Lane = record opening_lane { tags = ts } in l) ∷ placed_lanes mediator (from + 1) host ds (replicate n opening_lane))
+    (free-placed (λ tag. place_of mediator from tag host 0 d) 0 tag_count)
+    ∙ ap (λ (ls : List Lane). opening_lane ∷ ls) (opening-placed mediator (from + 1) host ds n)

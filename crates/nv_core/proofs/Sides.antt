@@ -2,7 +2,7 @@
 use Rattle.std.proofs.Common.{◌≡◌, ℕ, zero, suc, Bool, false, ◌&&◌, List, [], ◌∷◌, map, replicate, set, slice_get, Option, Some, None, lit<, refl, sym, ap, ◌∙◌, subst, length}
 use Rattle.std.proofs.lemmas.List.{length-replicate}
 use Rattle.nv_core.proofs.KeptStates.{IsKeptOf, tail-of}
-use Rattle.nv_core.specs.Front.{HasTailMoved, IsLive, IsSideOf, Side, rung_with, tails_of, with_side}
+use Rattle.nv_core.specs.Front.{ComesTo, HasTailMoved, IsLive, IsSideOf, IsStepInEach, Side, rung_with, tails_of, with_side}
 use Rattle.nv_core.specs.Kept.{AreKept, IsKept, IsLent}
 use Rattle.nv_core.specs.State.{IsOf, IsStep, State, world_of}
 use Rattle.nv_device.specs.Physical.{no_lane, with_lane}
@@ -10,11 +10,14 @@ use Rattle.nv_device.specs.State.{Physical}
 use Rattle.nv_disk.specs.Flat.{byte_of_block}
 use Rattle.nv_disk.specs.Marks.{mark_of}
 use Rattle.nv_laws_sound.proofs.Lists.{set-same, some-same}
+use Rattle.nv_core.proofs.Submits.{IsStepBut}
 use Rattle.nv_laws_sound.proofs.Mediators.{left-alone}
+use Rattle.nv_laws_sound.proofs.Unplaced.{placed-alike}
 use Rattle.nv_laws_sound.specs.Consistent.{IsConsistent}
 use Rattle.nv_laws_sound.specs.Counted.{IsCounted, commands}
 use Rattle.nv_laws_sound.specs.LaidOut.{IsLaidOut}
 use Rattle.nv_laws_sound.specs.Phased.{ArePhased}
+use Rattle.nv_laws_sound.specs.Unplaced.{after_unplaced, unplaced}
 use Rattle.nv_laws_sound.specs.Mediators.{IsMediators, after_on, on_disk}
 use Rattle.nv_model.specs.Controller.{Controller}
 use Rattle.nv_model.specs.Memory.{byte_in}
@@ -164,14 +167,6 @@ module _ (geometry : Geometry) (side : Side) (memory : List ℕ) (w : World) (is
   unfolding commands
   counted-side counted = (let own_counted = subst (IsCounted geometry) (sym own-is) counted in record { running = own_counted.running })
 
-  -- and in the world, where they do in a state with this side
-  pub counted-in : (host : List ℕ) (device : Physical) →
-      IsCounted geometry (world_of (let s : State = record { host = host; device = device; lanes = side.lanes; controllers = side.controllers } in s)) → IsCounted geometry w
-  unfolding commands
-  counted-in host device counted =
-      let own_counted : IsCounted geometry own = record { running = counted.running } in
-      subst (IsCounted geometry) own-is own_counted
-
   -- what is due there is due in the world
   pub due-side : (e : Event) → IsMediators e → due geometry e (world_of state_in) ≡ due geometry e w
   unfolding due
@@ -183,13 +178,25 @@ module _ (geometry : Geometry) (side : Side) (memory : List ℕ) (w : World) (is
   pub tail-there : (lane : ℕ) (d : DeviceLane) → slice_get w.device lane ≡ Some d → slice_get side.tails lane ≡ Some d.tail
   tail-there lane d there = ap (λ (ts : List ℕ). slice_get ts lane) (sym is.tails) ∙ tail-of w.device lane d there
 
-  -- an event that rings the doorbell of one lane
+  -- an event that hands parts on, and rings the doorbell of one lane
   pub rung-in : (e : Event) → IsMediators e → (r : Reply) (new : Side) (after : List ℕ) (lane tail : ℕ) (d : DeviceLane) → slice_get w.device lane ≡ Some d
       → new.tails ≡ set side.tails lane tail
-      → IsStep geometry e state_in r
+      → IsStepBut geometry e state_in r
       (record state_in { host = after; device = with_lane lane (record d { tail = tail }) state_in.device; lanes = new.lanes; controllers = new.controllers })
-      → (let a : After = record { world = with_side new after w; reply = r } in a) ≡ step geometry e w
+      → ComesTo geometry e w r new after
   rung-in e mine r new after lane tail d there moved made =
-      ap (λ (ds : List DeviceLane). let a : After = record { world = record w { host = byte_in after; device = ds; lanes = new.lanes; controllers = new.controllers }; reply = r } in a)
+      ap (λ (ds : List DeviceLane). after_unplaced
+      (let a : After = record { world = record w { host = byte_in after; device = ds; lanes = new.lanes; controllers = new.controllers }; reply = r } in a))
       (ap (λ (ts : List ℕ). rung_with ts w.device) (moved ∙ ap (λ (ts : List ℕ). set ts lane tail) (sym is.tails)) ∙ rung-one w.device lane tail d there)
-      ∙ made-in e mine r _ made
+      ∙ ap (after_on w.disk w.kept) made
+      ∙ sym (ap after_unplaced (left-alone w.disk w.kept geometry e (world_of state_in) mine))
+      ∙ ap (λ (v : World). after_unplaced (step geometry e v)) own-is
+
+-- what a call comes to in each world that has the side, it comes to in each that has it but for places
+pub in-each : (geometry : Geometry) (e : Event) (old new : Side) (before after : List ℕ) (r : Reply) → IsMediators e
+    → ((w : World) → IsSideOf old before w → ComesTo geometry e w r new after) → IsStepInEach geometry e old before r new after
+in-each geometry e old new before after r mine made w on =
+    let v : World = record w { lanes = old.lanes } in
+    let left : unplaced v ≡ unplaced w = ap (λ (ls : List Lane). let u : World = record w { lanes = ls } in u) (sym on.lanes) in
+    made v (record { host = on.host; lanes = refl; controllers = on.controllers; tails = on.tails })
+    ∙ sym (placed-alike geometry e v mine) ∙ ap (λ (u : World). after_unplaced (step geometry e u)) left ∙ placed-alike geometry e w mine

@@ -9,19 +9,17 @@ use Rattle.nv_entry.specs.declared.status.Status.{Status}
 use Rattle.nv_entry.specs.declared.status_code.StatusCode.TheVariants.{Success}
 use Rattle.nv_laws_sound.proofs.Lists.{set-same, set-set}
 use Rattle.nv_laws_sound.proofs.Planned.{plan_over-is, shares-count}
-use Rattle.nv_model.specs.Queue.{next_slot}
 use Rattle.nv_model.specs.Transcript.{Outcome, ReadDone, Settled}
 use Rattle.nv_ns.specs.Extents.{Namespace}
 use Rattle.nv_plan.specs.Made.{IsJobsPlan, MadePlan, outcome_of, plan_come, plan_made, shares_made}
 use Rattle.nv_plan.specs.Outline.{kind_of}
 use Rattle.nv_plan.specs.declared.job.Job.{Job}
 use Rattle.nv_plan.specs.declared.kind.PlanKind.TheVariants as kind
-use Rattle.nv_world_model.specs.Area.{ring_size}
 use Rattle.nv_world_model.specs.Geometry.{Guest}
 use Rattle.nv_world_model.specs.Plan.{Answer, Bounced, Direct, NoData, Plan, plan_over}
 use Rattle.nv_world_model.specs.Share.{Share, shares_of, tags_of_entry}
 use Rattle.nv_world_model.specs.ShareArea.{is_no_command}
-use Rattle.nv_world_model.specs.World.{Command, Ended, Flying, Lane, Queued, Tag, Taken, group_in, tag_changed}
+use Rattle.nv_world_model.specs.World.{Command, Ended, Flying, InDevice, Lane, Tag, Taken, group_in, tag_changed}
 
 -- ---- by the kind of a plan
 
@@ -55,12 +53,12 @@ going-tail (NoData work) tags ns entry at goes = refl
 going-tail (Direct work) tags ns entry at goes = refl
 going-tail (Bounced work) tags ns entry at goes = refl
 
-pub going-tags : (plan : Plan) (tags : List ℕ) (ns : Namespace) (command : Command) (at : ℕ) (l : Lane) → IsGoing plan
-    → all_handed tags (shares_of ns command.entry plan) at command l ≡ tags_behind plan tags ns command at l
-going-tags (Answer st) tags ns command at l goes = absurd goes
-going-tags (NoData work) tags ns command at l goes = refl
-going-tags (Direct work) tags ns command at l goes = refl
-going-tags (Bounced work) tags ns command at l goes = refl
+pub going-tags : (plan : Plan) (tags : List ℕ) (ns : Namespace) (command : Command) (l : Lane) → IsGoing plan
+    → all_handed tags (shares_of ns command.entry plan) command l ≡ tags_behind plan tags ns command l
+going-tags (Answer st) tags ns command l goes = absurd goes
+going-tags (NoData work) tags ns command l goes = refl
+going-tags (Direct work) tags ns command l goes = refl
+going-tags (Bounced work) tags ns command l goes = refl
 
 -- a plan that goes has shares
 pub shares-some : (p : MadePlan) (n : ℕ) → IsJobsPlan p → IsGoing (plan_made p) → n ≡ tags_of_entry p.given.namespace p.job.sqe → 0 < n
@@ -80,27 +78,21 @@ come-some guest entry reads plan come some goes =
 changed-twice : (tag : ℕ) (t now : Tag) (l : Lane) → tag_changed tag now (tag_changed tag t l) ≡ tag_changed tag now l
 changed-twice tag t now l = ap (λ (ts : List Tag). let k : Lane = record l { tags = ts } in k) (set-set l.tags tag t now)
 
-shares-twice : (tag : ℕ) (others : List ℕ) (shares : List Share) (at : ℕ) (command : Command) (t : Tag) (l : Lane) → 0 < length shares
-    → all_handed (tag ∷ others) shares at command (tag_changed tag t l) ≡ all_handed (tag ∷ others) shares at command l
-shares-twice tag others [] at command t l some = absurd (omega (arith, some))
-shares-twice tag others (share ∷ shares) at command t l some =
-    elim (is_no_command share) as (λ b.
-    cond b (all_handed others shares at command (tag_changed tag (Ended command (done_with Success) (Some share)) (tag_changed tag t l)))
-    (all_handed others shares (next_slot ring_size at) command (tag_changed tag (Flying command share (Queued at)) (tag_changed tag t l)))
-    ≡ cond b (all_handed others shares at command (tag_changed tag (Ended command (done_with Success) (Some share)) l))
-    (all_handed others shares (next_slot ring_size at) command (tag_changed tag (Flying command share (Queued at)) l))) [
-      | true ↦ ap (all_handed others shares at command) (changed-twice tag t (Ended command (done_with Success) (Some share)) l)
-      | false ↦ ap (all_handed others shares (next_slot ring_size at) command) (changed-twice tag t (Flying command share (Queued at)) l)
-    ]
+shares-twice : (tag : ℕ) (others : List ℕ) (shares : List Share) (command : Command) (t : Tag) (l : Lane) → 0 < length shares
+    → all_handed (tag ∷ others) shares command (tag_changed tag t l) ≡ all_handed (tag ∷ others) shares command l
+shares-twice tag others [] command t l some = absurd (omega (arith, some))
+shares-twice tag others (share ∷ shares) command t l some =
+    ap (all_handed others shares command)
+    (changed-twice tag t (cond (is_no_command share) (Ended command (done_with Success) (Some share)) (Flying command share InDevice)) l)
 
-plan-twice : (plan : Plan) (tag : ℕ) (others : List ℕ) (ns : Namespace) (at : ℕ) (command : Command) (t : Tag) (l : Lane)
+plan-twice : (plan : Plan) (tag : ℕ) (others : List ℕ) (ns : Namespace) (command : Command) (t : Tag) (l : Lane)
     → (IsGoing plan → 0 < length (shares_of ns command.entry plan))
-    → tags_behind plan (tag ∷ others) ns command at (tag_changed tag t l) ≡ tags_behind plan (tag ∷ others) ns command at l
-plan-twice (Answer st) tag others ns at command t l some =
+    → tags_behind plan (tag ∷ others) ns command (tag_changed tag t l) ≡ tags_behind plan (tag ∷ others) ns command l
+plan-twice (Answer st) tag others ns command t l some =
     ap (tags_changed others (Ended command (done_with Success) None)) (changed-twice tag t (Ended command st None) l)
-plan-twice (NoData work) tag others ns at command t l some = shares-twice tag others (shares_of ns command.entry (NoData work)) at command t l (some tt)
-plan-twice (Direct work) tag others ns at command t l some = shares-twice tag others (shares_of ns command.entry (Direct work)) at command t l (some tt)
-plan-twice (Bounced work) tag others ns at command t l some = shares-twice tag others (shares_of ns command.entry (Bounced work)) at command t l (some tt)
+plan-twice (NoData work) tag others ns command t l some = shares-twice tag others (shares_of ns command.entry (NoData work)) command t l (some tt)
+plan-twice (Direct work) tag others ns command t l some = shares-twice tag others (shares_of ns command.entry (Direct work)) command t l (some tt)
+plan-twice (Bounced work) tag others ns command t l some = shares-twice tag others (shares_of ns command.entry (Bounced work)) command t l (some tt)
 
 -- ---- with the transcript moved out
 
@@ -131,10 +123,10 @@ module _ (ns : Namespace) (l moved : Lane) (tag : ℕ) (waits : WaitsForPlan ns 
         tail = there.tail;
         tags_are =
             there.tags_are
-            ∙ ap (λ (tags : List ℕ). tags_behind now tags given.namespace command at moved) waits.first
-            ∙ ap (tags_behind now (tag ∷ waits.others) given.namespace command at) is
-            ∙ plan-twice now tag waits.others given.namespace at command (Taken command []) l some
-            ∙ sym (ap (λ (tags : List ℕ). tags_behind now tags given.namespace command at l) waits.first);
+            ∙ ap (λ (tags : List ℕ). tags_behind now tags given.namespace command moved) waits.first
+            ∙ ap (tags_behind now (tag ∷ waits.others) given.namespace command) is
+            ∙ plan-twice now tag waits.others given.namespace command (Taken command []) l some
+            ∙ sym (ap (λ (tags : List ℕ). tags_behind now tags given.namespace command l) waits.first);
       }
 
 -- ---- what came of a job

@@ -10,10 +10,11 @@ use Rattle.nv_core.specs.Tags.{untaken}
 use Rattle.nv_core.proofs.GroupWorlds.{IsTakenHere, group-lane, not-taken, taken-found, taken-step}
 use Rattle.nv_core.proofs.Handed.{lane-same, lane-there}
 use Rattle.nv_core.proofs.Placed.{owner, owner-there, same-size}
-use Rattle.nv_core.proofs.SubmitWorlds.{carried-is}
+use Rattle.nv_core.proofs.SubmitWorlds.{carried-alike}
 use Rattle.nv_device.specs.Physical.{lane_of, with_lane}
 use Rattle.nv_device.specs.State.{Physical}
 use Rattle.nv_laws_sound.proofs.Lists.{set-same, slice_get-there}
+use Rattle.nv_laws_sound.specs.Unplaced.{after_unplaced}
 use Rattle.nv_mem.specs.GuestMap.{covers_host, guest_of, span_met, spans_meet}
 use Rattle.nv_mem.specs.declared.region.Region.{Region}
 use Rattle.nv_model.specs.Controller.{Controller}
@@ -27,7 +28,8 @@ use Rattle.nv_world_model.specs.Geometry.{Geometry, Guest, regions_of}
 use Rattle.nv_world_model.specs.Plan.{Plan, plan_over}
 use Rattle.nv_world_model.specs.Seat.{Owner, owner_by, owner_of}
 use Rattle.nv_world_model.specs.Step.{After, for_one, for_owner, replied, step, submit_by}
-use Rattle.nv_world_model.specs.World.{Lane, group, group_in, tag_of}
+use Rattle.nv_world_model.specs.World.{Command, Lane, group, group_in, tag_of}
+use Rattle.nv_world_model.specs.declared.event.Event.{Event}
 use Rattle.nv_world_model.specs.declared.event.Event.TheVariants as event
 
 -- ---- what no guest has
@@ -60,7 +62,21 @@ nobodys-apart (r ∷ rs) host len none =
     ap (λ (b : Bool). b || span_met rs host len) (span-clear r host len (λ at low high. (not-covered _ _ _ (none at low high)).0))
     ∙ nobodys-apart rs host len (λ at low high. (not-covered _ _ _ (none at low high)).1)
 
+-- ---- what stays
+
+-- where nothing was carried out, the lane and its tail are as they were
+pub submitted-same : (o : Outcome Plan) (guest : Guest) (mediator lane : ℕ) (tags : List ℕ) (command : Command) (r : Reply) (host host_new : ℕ → ℕ)
+    (at at_new : ℕ) (l l_new : Lane) → IsSubmitted o guest mediator lane tags command r host host_new at at_new l l_new → (r ≡ reply.Done → ⊥)
+    → (at_new ≡ at) × (l_new ≡ l)
+submitted-same (Wanted addr len) guest mediator lane tags command r host host_new at at_new l l_new is off = (is.tail, is.tags_are)
+submitted-same (Settled plan) guest mediator lane tags command r host host_new at at_new l l_new is off = absurd (off is.0)
+
 -- ---- the event
+
+-- a step but for the places of parts
+abbrev pub IsStepBut : Geometry → Event → (old : State) → Reply → (new : State) → Type 0
+IsStepBut geometry e old r new =
+    after_unplaced (let a : After = record { world = world_of new; reply = r } in a) ≡ after_unplaced (step geometry e (world_of old))
 
 module _ (geometry : Geometry) (s : State) (lane tag : ℕ) where
   pub submit-not : (u : Option Reply) (r : Reply) → u ≡ untaken tag (tag_of (world_of s) lane tag) → u ≡ Some r → IsStep geometry (event.Submit lane tag) s r s
@@ -148,19 +164,21 @@ module _ (geometry : Geometry) (s : State) (lane tag : ℕ) where
         -- by what came of it
         by-outcome : (o : Outcome Plan) (r : Reply) (host_new : List ℕ) (at_new : ℕ) (l_new : Lane)
             → IsSubmitted o guest geometry.mediator lane tags t.command r (byte_in s.host) (byte_in host_new) d.tail at_new l l_new
-            → (let a : After = record { world = world_of (record s { host = host_new; device = rung_to at_new; lanes = set s.lanes lane l_new }); reply = r } in a)
-            ≡ submit_by o geometry.mediator lane tags t.command who (world_of s)
+            → after_unplaced
+            (let a : After = record { world = world_of (record s { host = host_new; device = rung_to at_new; lanes = set s.lanes lane l_new }); reply = r } in a)
+            ≡ after_unplaced (submit_by o geometry.mediator lane tags t.command who (world_of s))
         by-outcome (Wanted addr len) r host_new at_new l_new is =
             let behind : (ℕ → ℕ) → ℕ → Lane → Reply → After = λ h n k x. record {
               world = record (world_of (record s { device = rung_to n; lanes = set s.lanes lane k })) { host = h };
               reply = x;
             } in
-            ap (behind (byte_in host_new) at_new l_new) is.answered
+            ap after_unplaced
+            (ap (behind (byte_in host_new) at_new l_new) is.answered
             ∙ ap (λ (h : ℕ → ℕ). behind h at_new l_new reply.Stale) is.memory
             ∙ ap (λ (n : ℕ). behind (byte_in s.host) n l_new reply.Stale) is.tail
             ∙ ap (λ (k : Lane). behind (byte_in s.host) d.tail k reply.Stale) is.tags_are
             ∙ ap (λ (p : Physical). replied reply.Stale (world_of (record s { device = p; lanes = set s.lanes lane l }))) (lane-same lane s.device on-device)
-            ∙ ap (λ (ls : List Lane). replied reply.Stale (record (world_of s) { lanes = ls })) (set-same s.lanes lane l here)
+            ∙ ap (λ (ls : List Lane). replied reply.Stale (record (world_of s) { lanes = ls })) (set-same s.lanes lane l here))
         by-outcome (Settled plan) r host_new at_new l_new is =
             let behind : (ℕ → ℕ) → ℕ → Lane → Reply → After = λ h n k x. record {
               world = record (world_of (record s { device = rung_to n; lanes = set s.lanes lane k })) { host = h };
@@ -168,31 +186,28 @@ module _ (geometry : Geometry) (s : State) (lane tag : ℕ) where
             } in
             let host = host_behind plan tags guest t.command.entry geometry.mediator lane d.tail (byte_in s.host) in
             let tail = tail_behind plan tags guest.namespace t.command.entry d.tail in
-            ap (behind (byte_in host_new) at_new l_new) is.0
+            ap after_unplaced
+            (ap (behind (byte_in host_new) at_new l_new) is.0
             ∙ ap (λ (h : ℕ → ℕ). behind h at_new l_new reply.Done) is.1.memory
             ∙ ap (λ (n : ℕ). behind host n l_new reply.Done) is.1.tail
-            ∙ ap (λ (k : Lane). behind host tail k reply.Done) is.1.tags_are
-            ∙ ap (replied reply.Done) (carried-is (world_of s) geometry.mediator lane tags t.command who l d here device-there plan)
+            ∙ ap (λ (k : Lane). behind host tail k reply.Done) is.1.tags_are)
+            ∙ ap (replied reply.Done) (carried-alike (world_of s) geometry.mediator lane tags t.command who l d here device-there plan)
 
       -- the event
       pub submit-done : (old : State) (i : ℕ) (l l_new : Lane) (host_new : List ℕ) (at at_new : ℕ) (p_new : Physical) (r : Reply) (mediator : ℕ) → s ≡ old
-          → i ≡ lane → l ≡ get_or s.lanes i l → mediator ≡ geometry.mediator → length host_new ≡ length s.host → at ≡ d.tail
+          → i ≡ lane → l ≡ get_or s.lanes i l → mediator ≡ geometry.mediator → at ≡ d.tail
           → p_new ≡ with_lane lane (record d { tail = at_new }) s.device
           → IsSubmitted (plan_over guest t.command.entry t.reads) guest mediator lane (group_in (Some l) tag) t.command r (byte_in s.host) (byte_in host_new) at at_new l l_new
-          → IsStep geometry (event.Submit lane tag) old r (record s { host = host_new; device = p_new; lanes = set s.lanes i l_new })
-      submit-done old i l l_new host_new at at_new p_new r mediator same on found begins sized tail rings is =
+          → IsStepBut geometry (event.Submit lane tag) old r (record s { host = host_new; device = p_new; lanes = set s.lanes i l_new })
+      submit-done old i l l_new host_new at at_new p_new r mediator same on found begins tail rings is =
           let o = plan_over guest t.command.entry t.reads in
           let here = taken-found s.lanes lane tag t i l on found in
           let own : IsSubmitted o guest geometry.mediator lane (group_in (Some l) tag) t.command r (byte_in s.host) (byte_in host_new) d.tail at_new l l_new =
           subst (λ (m : ℕ). IsSubmitted o guest m lane (group_in (Some l) tag) t.command r (byte_in s.host) (byte_in host_new) d.tail at_new l l_new) begins
           (subst (λ (n : ℕ). IsSubmitted o guest mediator lane (group_in (Some l) tag) t.command r (byte_in s.host) (byte_in host_new) n at_new l l_new) tail is) in
-          subst (λ (x : State). IsStep geometry (event.Submit lane tag) x r (record s { host = host_new; device = p_new; lanes = set s.lanes i l_new })) same
-          (subst (λ (k : ℕ). IsStep geometry (event.Submit lane tag) s r (record s { host = host_new; device = p_new; lanes = set s.lanes k l_new })) (sym on)
-          (subst (λ (p : Physical). IsStep geometry (event.Submit lane tag) s r (record s { host = host_new; device = p; lanes = set s.lanes lane l_new })) (sym rings)
-          (record {
-            after =
-                by-outcome l here o r host_new at_new l_new own
-                ∙ ap (λ (ts : List ℕ). submit_by o geometry.mediator lane ts t.command who (world_of s)) (sym (group-lane (world_of s) lane tag l here))
-                ∙ sym submit-owned;
-            size = record { host = sized; mediator = refl; blocks = refl };
-          })))
+          subst (λ (x : State). IsStepBut geometry (event.Submit lane tag) x r (record s { host = host_new; device = p_new; lanes = set s.lanes i l_new })) same
+          (subst (λ (k : ℕ). IsStepBut geometry (event.Submit lane tag) s r (record s { host = host_new; device = p_new; lanes = set s.lanes k l_new })) (sym on)
+          (subst (λ (p : Physical). IsStepBut geometry (event.Submit lane tag) s r (record s { host = host_new; device = p; lanes = set s.lanes lane l_new })) (sym rings)
+          (by-outcome l here o r host_new at_new l_new own
+          ∙ ap (λ (ts : List ℕ). after_unplaced (submit_by o geometry.mediator lane ts t.command who (world_of s))) (sym (group-lane (world_of s) lane tag l here))
+          ∙ sym (ap after_unplaced submit-owned))))

@@ -3,7 +3,7 @@ use Rattle.std.proofs.Common.{◌≡◌, ℕ, zero, suc, ◌<◌, ◌≤◌, ◌
 use Rattle.std.proofs.Common.{arith, refl, sym, ap, ◌∙◌, subst}
 use Rattle.std.proofs.lemmas.Bool.{cases_eq, ne_eqb}
 use Rattle.std.proofs.lemmas.Option.{slice_get_past}
-use Rattle.nv_core.specs.Tags.{AreUsed, HasCommand, IsUsed, command_at, ended_as, flying_as, part_in, plan_in, plan_kept, standing_of, state_in}
+use Rattle.nv_core.specs.Tags.{AreUsed, HasCommand, IsUsed, command_at, ended_as, flying_as, part_in, plan_in, plan_kept, state_in}
 use Rattle.nv_core.specs.Tags.{state_of as state_of_tag, tag_made, tags_by, tags_of}
 use Rattle.nv_core.specs.declared.progress.Progress.{Progress}
 use Rattle.nv_core.specs.declared.progress.Progress.TheVariants as progress
@@ -16,7 +16,7 @@ use Rattle.nv_tags.specs.Tags as slot
 use Rattle.nv_tags.specs.declared.state.TagState.{TagState}
 use Rattle.nv_world_model.proofs.Seats.{slice_get-set, slice_get-set-other}
 use Rattle.nv_world_model.specs.Share.{Share}
-use Rattle.nv_world_model.specs.World.{Command, Ended, Flying, Standing, Taken, Tag, is_free}
+use Rattle.nv_world_model.specs.World.{Command, Ended, Flying, InDevice, Standing, Taken, Tag, is_free}
 
 -- ---- lists
 
@@ -133,10 +133,9 @@ IsAtPoint command slot.Taken t = (reads : List ReadDone) × (t ≡ Taken command
 IsAtPoint command slot.Flying t = (share : Share) × ((standing : Standing) × (t ≡ Flying command share standing))
 IsAtPoint command (slot.Ended st) t = (share : Option Share) × (t ≡ Ended command st share)
 
-flying-as : (command : Command) (share : Option Share) (standing : Standing) → HasCommand (flying_as command share standing)
-    → IsAtPoint command slot.Flying (flying_as command share standing)
-flying-as command None standing has = absurd has
-flying-as command (Some share) standing has = (share, (standing, refl))
+flying-as : (command : Command) (share : Option Share) → HasCommand (flying_as command share) → IsAtPoint command slot.Flying (flying_as command share)
+flying-as command None has = absurd has
+flying-as command (Some share) has = (share, (InDevice, refl))
 
 ended-as : (command : Command) (st : StatusField) (share : Option Share) → HasCommand (ended_as command st share)
     → IsAtPoint command (slot.Ended st) (ended_as command st share)
@@ -147,22 +146,22 @@ pub made-at : (kept : List Progress) (command : Command) (point : slot.Point) (p
     → IsAtPoint command point (tag_made kept (slot.Used command point) p)
 made-at kept command slot.Taken progress.Nothing is = absurd is
 made-at kept command slot.Taken (progress.Reading reads) is = (reads, refl)
-made-at kept command slot.Taken (progress.Going plan at) is = absurd is
+made-at kept command slot.Taken (progress.Going plan) is = absurd is
 made-at kept command slot.Taken (progress.Over plan) is = absurd is
-made-at kept command slot.Taken (progress.Part part at) is = absurd is
+made-at kept command slot.Taken (progress.Part part) is = absurd is
 made-at kept command slot.Taken (progress.PartOver part) is = absurd is
 made-at kept command slot.Flying progress.Nothing is = absurd is
 made-at kept command slot.Flying (progress.Reading reads) is = absurd is
-made-at kept command slot.Flying (progress.Going plan at) is = flying-as command (share_made 0 plan) (standing_of at) is
+made-at kept command slot.Flying (progress.Going plan) is = flying-as command (share_made 0 plan) is
 made-at kept command slot.Flying (progress.Over plan) is = absurd is
-made-at kept command slot.Flying (progress.Part part at) is =
-    flying-as command (part_in part (plan_in (slice_get kept command.leader))) (standing_of at) is
+made-at kept command slot.Flying (progress.Part part) is =
+    flying-as command (part_in part (plan_in (slice_get kept command.leader))) is
 made-at kept command slot.Flying (progress.PartOver part) is = absurd is
 made-at kept command (slot.Ended st) progress.Nothing is = (None, refl)
 made-at kept command (slot.Ended st) (progress.Reading reads) is = absurd is
-made-at kept command (slot.Ended st) (progress.Going plan at) is = absurd is
+made-at kept command (slot.Ended st) (progress.Going plan) is = absurd is
 made-at kept command (slot.Ended st) (progress.Over plan) is = ended-as command st (share_made 0 plan) is
-made-at kept command (slot.Ended st) (progress.Part part at) is = absurd is
+made-at kept command (slot.Ended st) (progress.Part part) is = absurd is
 made-at kept command (slot.Ended st) (progress.PartOver part) is =
     ended-as command st (part_in part (plan_in (slice_get kept command.leader))) is
 
@@ -194,11 +193,11 @@ abbrev pub StaysPlan : (kept now : List Progress) → (tag : ℕ) → Type 0
 StaysPlan kept now tag = (plan : MadePlan) → plan_in (slice_get kept tag) ≡ Some plan → plan_in (slice_get now tag) ≡ Some plan
 
 -- so a tag whose command goes by it is what it was
-flying-part : (led now : Option MadePlan) (command : Command) (part : ℕ) (at : Standing) → ((plan : MadePlan) → led ≡ Some plan → now ≡ Some plan)
-    → HasCommand (flying_as command (part_in part led) at) → flying_as command (part_in part now) at ≡ flying_as command (part_in part led) at
-flying-part None now command part at stays has = absurd has
-flying-part (Some plan) now command part at stays has =
-    ap (λ (o : Option MadePlan). flying_as command (part_in part o) at) (stays plan refl)
+flying-part : (led now : Option MadePlan) (command : Command) (part : ℕ) → ((plan : MadePlan) → led ≡ Some plan → now ≡ Some plan)
+    → HasCommand (flying_as command (part_in part led)) → flying_as command (part_in part now) ≡ flying_as command (part_in part led)
+flying-part None now command part stays has = absurd has
+flying-part (Some plan) now command part stays has =
+    ap (λ (o : Option MadePlan). flying_as command (part_in part o)) (stays plan refl)
 
 ended-part : (led now : Option MadePlan) (command : Command) (part : ℕ) (st : StatusField) → ((plan : MadePlan) → led ≡ Some plan → now ≡ Some plan)
     → HasCommand (ended_as command st (part_in part led)) → ended_as command st (part_in part now) ≡ ended_as command st (part_in part led)
@@ -212,16 +211,16 @@ made-stays kept now slot.Free p stays is = refl
 made-stays kept now (slot.Used command slot.Taken) p stays is = refl
 made-stays kept now (slot.Used command slot.Flying) progress.Nothing stays is = refl
 made-stays kept now (slot.Used command slot.Flying) (progress.Reading reads) stays is = refl
-made-stays kept now (slot.Used command slot.Flying) (progress.Going plan at) stays is = refl
+made-stays kept now (slot.Used command slot.Flying) (progress.Going plan) stays is = refl
 made-stays kept now (slot.Used command slot.Flying) (progress.Over plan) stays is = refl
-made-stays kept now (slot.Used command slot.Flying) (progress.Part part at) stays is =
-    flying-part (plan_in (slice_get kept command.leader)) (plan_in (slice_get now command.leader)) command part (standing_of at) stays is
+made-stays kept now (slot.Used command slot.Flying) (progress.Part part) stays is =
+    flying-part (plan_in (slice_get kept command.leader)) (plan_in (slice_get now command.leader)) command part stays is
 made-stays kept now (slot.Used command slot.Flying) (progress.PartOver part) stays is = refl
 made-stays kept now (slot.Used command (slot.Ended st)) progress.Nothing stays is = refl
 made-stays kept now (slot.Used command (slot.Ended st)) (progress.Reading reads) stays is = refl
-made-stays kept now (slot.Used command (slot.Ended st)) (progress.Going plan at) stays is = refl
+made-stays kept now (slot.Used command (slot.Ended st)) (progress.Going plan) stays is = refl
 made-stays kept now (slot.Used command (slot.Ended st)) (progress.Over plan) stays is = refl
-made-stays kept now (slot.Used command (slot.Ended st)) (progress.Part part at) stays is = refl
+made-stays kept now (slot.Used command (slot.Ended st)) (progress.Part part) stays is = refl
 made-stays kept now (slot.Used command (slot.Ended st)) (progress.PartOver part) stays is =
     ended-part (plan_in (slice_get kept command.leader)) (plan_in (slice_get now command.leader)) command part st stays is
 

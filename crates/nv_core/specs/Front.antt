@@ -3,7 +3,7 @@
 use Rattle.std.specs.Prelude.{◌≡◌, ℕ, ◌<◌, List, [], ◌∷◌, length, map, replicate, slice_get, slice_index, slice_set, Some}
 use Rattle.nv_laws_sound.specs.Consistent.{IsConsistent}
 use Rattle.nv_laws_sound.specs.Phased.{ArePhased}
-use Rattle.nv_laws_sound.specs.Unplaced.{unplaced_lane}
+use Rattle.nv_laws_sound.specs.Unplaced.{after_unplaced, unplaced_lane}
 use Rattle.nv_model.specs.Controller.{Controller, opening}
 use Rattle.nv_model.specs.Memory.{byte_in}
 use Rattle.nv_model.specs.declared.reply.Reply.{Reply}
@@ -66,10 +66,18 @@ abbrev pub IsSideStep : Geometry → Event → (old : Side) → (before : List �
 IsSideStep geometry e old before r new after =
     (w : World) → IsSideOf old before w → (let a : After = record { world = with_side new after w; reply = r } in a) ≡ step geometry e w
 
--- the same in every such world that is as events leave it
+-- in a world the event is the definition's step, but for the places of parts: it leaves that side and memory, and nothing else has changed
+abbrev pub ComesTo : Geometry → Event → World → Reply → (new : Side) → (after : List ℕ) → Type 0
+ComesTo geometry e w r new after =
+    after_unplaced (let a : After = record { world = with_side new after w; reply = r } in a) ≡ after_unplaced (step geometry e w)
+
+-- so it is in every world that has this side and memory but for places
+abbrev pub IsStepInEach : Geometry → Event → (old : Side) → (before : List ℕ) → Reply → (new : Side) → (after : List ℕ) → Type 0
+IsStepInEach geometry e old before r new after = (w : World) → IsBeside old before w → ComesTo geometry e w r new after
+
+-- and in every such world that is as events leave it
 abbrev pub IsLiveStep : Geometry → Event → (old : Side) → (before : List ℕ) → Reply → (new : Side) → (after : List ℕ) → Type 0
-IsLiveStep geometry e old before r new after =
-    (w : World) → IsSideOf old before w → IsLive geometry w → (let a : After = record { world = with_side new after w; reply = r } in a) ≡ step geometry e w
+IsLiveStep geometry e old before r new after = (w : World) → IsBeside old before w → IsLive geometry w → ComesTo geometry e w r new after
 
 -- a Reap in any world that has this side and memory, whatever the physical controller has posted: the next completion of the lane was read, and has
 -- ended its tag
@@ -83,10 +91,6 @@ pub record HasTailMoved (lane : ℕ) (old new : List ℕ) : Type 0 where
   pub tail : ℕ
   pub fits : tail < ring_size
   pub is : new ≡ slice_set old lane tail
-
--- no tail has moved, neither the physical controller's nor the side's
-abbrev pub TailsStay : (old new : List DeviceLane) → (before after : Side) → Type 0
-TailsStay old new before after = (tails_of new ≡ tails_of old) × (after.tails ≡ before.tails)
 
 -- one more taken command of each queue of a guest can be counted
 abbrev pub CountMore : (guest : ℕ) → List Controller → Type 0

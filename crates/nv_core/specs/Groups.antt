@@ -5,13 +5,11 @@ use Rattle.nv_core.specs.Tags.{state_in}
 use Rattle.nv_entry.specs.Status.{StatusField}
 use Rattle.nv_entry.specs.StatusCode.{done_with}
 use Rattle.nv_entry.specs.declared.status_code.StatusCode.TheVariants.{Success}
-use Rattle.nv_model.specs.Queue.{next_slot}
 use Rattle.nv_tags.specs.declared.state.TagState.TheVariants as state
-use Rattle.nv_world_model.specs.Area.{ring_size}
 use Rattle.nv_world_model.specs.Share.{Share}
 use Rattle.nv_world_model.specs.ShareArea.{is_no_command}
 use Rattle.nv_world_model.specs.Step.{ended_status, status_before}
-use Rattle.nv_world_model.specs.World.{Command, Ended, Flying, Lane, Queued, Tag, tag_changed}
+use Rattle.nv_world_model.specs.World.{Command, Ended, Flying, InDevice, Lane, Tag, tag_changed}
 
 -- one tag after the other
 abbrev pub tags_changed : (tags : List ℕ) → Tag → Lane → Lane
@@ -28,15 +26,13 @@ all_ended [] command st l = l
 all_ended (tag ∷ tags) command st l =
     tags_changed tags (Ended command (done_with Success) None) (tag_changed tag (Ended command st None) l)
 
--- a command is handed on, each share in its tag, in order, the first entry in that slot of the submission ring; a share without a range is no
--- physical command: it has ended
-abbrev pub all_handed : (tags : List ℕ) → List Share → (at : ℕ) → Command → Lane → Lane
-all_handed [] shares at command l = l
-all_handed (tag ∷ tags) [] at command l = l
-all_handed (tag ∷ tags) (share ∷ shares) at command l =
-    if is_no_command share
-    then all_handed tags shares at command (tag_changed tag (Ended command (done_with Success) (Some share)) l)
-    else all_handed tags shares (next_slot ring_size at) command (tag_changed tag (Flying command share (Queued at)) l)
+-- a command is handed on, each share in its tag, in order, without where it is then; a share without a range is no physical command: it has ended
+abbrev pub all_handed : (tags : List ℕ) → List Share → Command → Lane → Lane
+all_handed [] shares command l = l
+all_handed (tag ∷ tags) [] command l = l
+all_handed (tag ∷ tags) (share ∷ shares) command l =
+    all_handed tags shares command
+    (tag_changed tag (if is_no_command share then Ended command (done_with Success) (Some share) else Flying command share InDevice) l)
 
 -- the statuses of tags that have all ended, in order
 abbrev pub statuses_in : (tags : List ℕ) → Lane → Option (List StatusField)

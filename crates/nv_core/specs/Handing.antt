@@ -3,14 +3,10 @@ use Rattle.std.specs.Prelude.{ℕ, ◌+◌, ◌≤◌, Bool, if◌then◌else◌
 use Rattle.std.specs.Bool.{⊤}
 use Rattle.nv_core.specs.declared.progress.Progress.{Progress}
 use Rattle.nv_core.specs.declared.progress.Progress.TheVariants as progress
-use Rattle.nv_core.specs.declared.standing.Standing.{Standing as Place}
-use Rattle.nv_core.specs.declared.standing.Standing.TheVariants as place
 use Rattle.nv_entry.specs.StatusCode.{done_with}
 use Rattle.nv_entry.specs.declared.status_code.StatusCode.TheVariants.{Success}
-use Rattle.nv_model.specs.Queue.{next_slot}
 use Rattle.nv_plan.specs.Made.{MadePlan}
 use Rattle.nv_tags.specs.Tags.{Ended, Flying, Point, Slot, with_point}
-use Rattle.nv_world_model.specs.Area.{ring_size}
 use Rattle.nv_world_model.specs.Share.{Share}
 use Rattle.nv_world_model.specs.ShareArea.{is_no_command}
 
@@ -23,44 +19,31 @@ IsRising from (tag ∷ tags) = (from ≤ tag) × IsRising (tag + 1) tags
 abbrev pub point_of : (nothing : Bool) → Point
 point_of nothing = if nothing then Ended (done_with Success) else Flying
 
--- what is kept of a further part, whose entry waits in that slot
-abbrev pub part_kept : (nothing : Bool) → (part at : ℕ) → Progress
-part_kept nothing part at = if nothing then progress.PartOver part else progress.Part part (place.Queued at)
+-- what is kept of a further part
+abbrev pub part_kept : (nothing : Bool) → (part : ℕ) → Progress
+part_kept nothing part = if nothing then progress.PartOver part else progress.Part part
 
 -- and what is kept of the first, with its plan
-abbrev pub first_kept : (nothing : Bool) → MadePlan → (at : ℕ) → Progress
-first_kept nothing plan at = if nothing then progress.Over plan else progress.Going plan (place.Queued at)
+abbrev pub first_kept : (nothing : Bool) → MadePlan → Progress
+first_kept nothing plan = if nothing then progress.Over plan else progress.Going plan
 
--- the slot of the next entry
-abbrev pub slot_behind : (nothing : Bool) → (at : ℕ) → ℕ
-slot_behind nothing at = if nothing then at else next_slot ring_size at
-
--- all further parts, each in its tag, the first of them of that number, and its entry in that slot
+-- all further parts, each in its tag, the first of them of that number
 abbrev pub parts_slots : (tags : List ℕ) → List Share → List Slot → List Slot
 parts_slots [] shares slots = slots
 parts_slots (tag ∷ tags) [] slots = slots
 parts_slots (tag ∷ tags) (share ∷ shares) slots = parts_slots tags shares (with_point (point_of (is_no_command share)) tag slots)
 
-abbrev pub parts_kept : (tags : List ℕ) → List Share → (part at : ℕ) → List Progress → List Progress
-parts_kept [] shares part at kept = kept
-parts_kept (tag ∷ tags) [] part at kept = kept
-parts_kept (tag ∷ tags) (share ∷ shares) part at kept =
-    parts_kept tags shares (part + 1) (slot_behind (is_no_command share) at) (slice_set kept tag (part_kept (is_no_command share) part at))
-
--- another place for a part that was handed on
-abbrev pub stood_at : Place → Progress → Progress
-stood_at at progress.Nothing = progress.Nothing
-stood_at at (progress.Reading reads) = progress.Reading reads
-stood_at at (progress.Going plan before) = progress.Going plan at
-stood_at at (progress.Over plan) = progress.Over plan
-stood_at at (progress.Part part before) = progress.Part part at
-stood_at at (progress.PartOver part) = progress.PartOver part
+abbrev pub parts_kept : (tags : List ℕ) → List Share → (part : ℕ) → List Progress → List Progress
+parts_kept [] shares part kept = kept
+parts_kept (tag ∷ tags) [] part kept = kept
+parts_kept (tag ∷ tags) (share ∷ shares) part kept =
+    parts_kept tags shares (part + 1) (slice_set kept tag (part_kept (is_no_command share) part))
 
 -- a part that was handed on has ended
 abbrev pub part_ended : Progress → Progress
 part_ended progress.Nothing = progress.Nothing
 part_ended (progress.Reading reads) = progress.Reading reads
-part_ended (progress.Going plan at) = progress.Over plan
+part_ended (progress.Going plan) = progress.Over plan
 part_ended (progress.Over plan) = progress.Over plan
-part_ended (progress.Part part at) = progress.PartOver part
+part_ended (progress.Part part) = progress.PartOver part
 part_ended (progress.PartOver part) = progress.PartOver part

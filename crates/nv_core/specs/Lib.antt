@@ -1,3 +1,4 @@
+pub mod Places
 pub mod State
 pub mod Front
 pub mod Kept

@@ -2,6 +2,7 @@
 -- carried out comes to (profile).
 use Rattle.std.specs.Prelude.{◌≡◌, ℕ, ◌<◌, List, length, slice_get, slice_index, Some}
 use Rattle.nv_core.specs.Front.{Side}
+use Rattle.nv_core.specs.Places.{placed_lanes}
 use Rattle.nv_device.specs.State.{Physical}
 use Rattle.nv_laws_sound.specs.Consistent.{IsConsistent}
 use Rattle.nv_laws_sound.specs.LaidOut.{IsLaidOut}
@@ -38,9 +39,15 @@ world_of s =
       controllers = s.controllers;
     }
 
--- the state by the host's bytes, the physical controller and the mediator's side
+-- the state by the host's bytes, the physical controller and the mediator's side: a part is where the physical controller and the rings show it
 abbrev pub state_of : (host : List ℕ) → Physical → Side → State
-state_of host device side = record { host = host; device = device; lanes = side.lanes; controllers = side.controllers }
+state_of host device side =
+    record {
+      host = host;
+      device = device;
+      lanes = placed_lanes device.mediator 0 (byte_in host) device.lanes side.lanes;
+      controllers = side.controllers;
+    }
 
 -- ---- what every call needs
 

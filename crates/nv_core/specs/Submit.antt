@@ -133,18 +133,18 @@ tail_behind (Direct work) tags ns entry at = tail_handed tags (shares_of ns entr
 tail_behind (Bounced work) tags ns entry at = tail_handed tags (shares_of ns entry (Bounced work)) at
 
 -- the tags after it
-abbrev pub tags_behind : Plan → (tags : List ℕ) → Namespace → Command → (at : ℕ) → Lane → Lane
-tags_behind (Answer st) tags ns command at l = all_ended tags command st l
-tags_behind (NoData work) tags ns command at l = all_handed tags (shares_of ns command.entry (NoData work)) at command l
-tags_behind (Direct work) tags ns command at l = all_handed tags (shares_of ns command.entry (Direct work)) at command l
-tags_behind (Bounced work) tags ns command at l = all_handed tags (shares_of ns command.entry (Bounced work)) at command l
+abbrev pub tags_behind : Plan → (tags : List ℕ) → Namespace → Command → Lane → Lane
+tags_behind (Answer st) tags ns command l = all_ended tags command st l
+tags_behind (NoData work) tags ns command l = all_handed tags (shares_of ns command.entry (NoData work)) command l
+tags_behind (Direct work) tags ns command l = all_handed tags (shares_of ns command.entry (Direct work)) command l
+tags_behind (Bounced work) tags ns command l = all_handed tags (shares_of ns command.entry (Bounced work)) command l
 
 -- a plan of a command with these tags was carried out: what the host, the tail of the submission ring and the lane are now
 pub record IsCarriedOut (plan : Plan) (guest : Guest) (mediator lane : ℕ) (tags : List ℕ) (command : Command) (host host_new : ℕ → ℕ)
     (at at_new : ℕ) (l l_new : Lane) : Type 0 where
   pub memory : host_new ≡ host_behind plan tags guest command.entry mediator lane at host
   pub tail : at_new ≡ tail_behind plan tags guest.namespace command.entry at
-  pub tags_are : l_new ≡ tags_behind plan tags guest.namespace command at l
+  pub tags_are : l_new ≡ tags_behind plan tags guest.namespace command l
 
 -- nothing was done
 pub record IsAsBefore (answer r : Reply) (host host_new : ℕ → ℕ) (at at_new : ℕ) (l l_new : Lane) : Type 0 where

@@ -3,8 +3,6 @@ use Rattle.std.specs.Prelude.{◌≡◌, ℕ, ◌<◌, ◌≤◌, ◌==◌, if�
 use Rattle.std.specs.Bool.{⊤}
 use Rattle.nv_core.specs.declared.progress.Progress.{Progress}
 use Rattle.nv_core.specs.declared.progress.Progress.TheVariants as progress
-use Rattle.nv_core.specs.declared.standing.Standing.{Standing as Place}
-use Rattle.nv_core.specs.declared.standing.Standing.TheVariants as place
 use Rattle.nv_entry.specs.Status.{StatusField}
 use Rattle.nv_model.specs.Transcript.{ReadDone}
 use Rattle.nv_plan.specs.Made.{MadePlan, share_made}
@@ -16,21 +14,15 @@ use Rattle.nv_tags.specs.declared.state.TagState.TheVariants as state
 use Rattle.nv_tags.specs.Tags as slot
 use Rattle.nv_world_model.specs.Area.{ring_size, tag_count}
 use Rattle.nv_world_model.specs.Share.{Share}
-use Rattle.nv_world_model.specs.World.{Answered, Command, Ended, Flying, Free, InDevice, Queued, Standing, Tag, Taken}
-
--- where a command is
-abbrev pub standing_of : Place → Standing
-standing_of (place.Queued at) = Queued at
-standing_of place.InDevice = InDevice
-standing_of (place.Answered at) = Answered at
+use Rattle.nv_world_model.specs.World.{Command, Ended, Flying, Free, InDevice, Tag, Taken}
 
 -- the plan that is kept of a command, in the tag that it goes by, once it was handed on
 abbrev pub plan_kept : Progress → Option MadePlan
 plan_kept progress.Nothing = None
 plan_kept (progress.Reading reads) = None
-plan_kept (progress.Going plan at) = Some plan
+plan_kept (progress.Going plan) = Some plan
 plan_kept (progress.Over plan) = Some plan
-plan_kept (progress.Part part at) = None
+plan_kept (progress.Part part) = None
 plan_kept (progress.PartOver part) = None
 
 abbrev pub plan_in : Option Progress → Option MadePlan
@@ -46,21 +38,22 @@ part_in part (Some plan) = share_made part plan
 abbrev pub taken_tag : Command → Progress → Tag
 taken_tag command progress.Nothing = Free
 taken_tag command (progress.Reading reads) = Taken command reads
-taken_tag command (progress.Going plan at) = Free
+taken_tag command (progress.Going plan) = Free
 taken_tag command (progress.Over plan) = Free
-taken_tag command (progress.Part part at) = Free
+taken_tag command (progress.Part part) = Free
 taken_tag command (progress.PartOver part) = Free
 
-abbrev pub flying_as : Command → Option Share → Standing → Tag
-flying_as command None at = Free
-flying_as command (Some share) at = Flying command share at
+-- of a part that was handed on it is not known where it is: of all places the one in the physical controller
+abbrev pub flying_as : Command → Option Share → Tag
+flying_as command None = Free
+flying_as command (Some share) = Flying command share InDevice
 
 abbrev pub flying_tag : Option MadePlan → Command → Progress → Tag
 flying_tag led command progress.Nothing = Free
 flying_tag led command (progress.Reading reads) = Free
-flying_tag led command (progress.Going plan at) = flying_as command (share_made 0 plan) (standing_of at)
+flying_tag led command (progress.Going plan) = flying_as command (share_made 0 plan)
 flying_tag led command (progress.Over plan) = Free
-flying_tag led command (progress.Part part at) = flying_as command (part_in part led) (standing_of at)
+flying_tag led command (progress.Part part) = flying_as command (part_in part led)
 flying_tag led command (progress.PartOver part) = Free
 
 abbrev pub ended_as : Command → StatusField → Option Share → Tag
@@ -70,9 +63,9 @@ ended_as command st (Some share) = Ended command st (Some share)
 abbrev pub ended_tag : Option MadePlan → Command → StatusField → Progress → Tag
 ended_tag led command st progress.Nothing = Ended command st None
 ended_tag led command st (progress.Reading reads) = Free
-ended_tag led command st (progress.Going plan at) = Free
+ended_tag led command st (progress.Going plan) = Free
 ended_tag led command st (progress.Over plan) = ended_as command st (share_made 0 plan)
-ended_tag led command st (progress.Part part at) = Free
+ended_tag led command st (progress.Part part) = Free
 ended_tag led command st (progress.PartOver part) = ended_as command st (part_in part led)
 
 -- what is kept of all tags; of a tag, what is kept of it
@@ -86,9 +79,9 @@ tag_made kept (slot.Used command (slot.Ended st)) p = ended_tag (plan_in (slice_
 abbrev pub IsNothing : Progress → Type 0
 IsNothing progress.Nothing = ⊤
 IsNothing (progress.Reading reads) = ⊥
-IsNothing (progress.Going plan at) = ⊥
+IsNothing (progress.Going plan) = ⊥
 IsNothing (progress.Over plan) = ⊥
-IsNothing (progress.Part part at) = ⊥
+IsNothing (progress.Part part) = ⊥
 IsNothing (progress.PartOver part) = ⊥
 
 -- a tag has a command
@@ -190,7 +183,7 @@ pub record IsTaken (tag : ℕ) (t : Option Tag) : Type 0 where
 abbrev pub IsReading : Progress → Type 0
 IsReading progress.Nothing = ⊥
 IsReading (progress.Reading reads) = ⊤
-IsReading (progress.Going plan at) = ⊥
+IsReading (progress.Going plan) = ⊥
 IsReading (progress.Over plan) = ⊥
-IsReading (progress.Part part at) = ⊥
+IsReading (progress.Part part) = ⊥
 IsReading (progress.PartOver part) = ⊥

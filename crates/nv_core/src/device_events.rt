@@ -2,13 +2,12 @@
 
 ghost use Rattle.std.specs.Prelude.{◌≡◌, ◌&&◌, IfOk, OnErr, length, nat_lt};
 ghost use Rattle.nv_core.specs.Answers.{said};
-ghost use Rattle.nv_core.specs.Front.{TailsStay};
+ghost use Rattle.nv_core.specs.Front.{tails_of};
 ghost use Rattle.nv_core.specs.State.{IsOf, IsStep, state_of};
 ghost use Rattle.nv_world_model.specs.Area.{tag_count};
 
 use crate::front::Front;
 use crate::layout::Layout;
-use crate::standing::Standing;
 use crate::state::Core;
 use nv_device::{Device, IDENTIFIERS, Response};
 use nv_entry::Status;
@@ -30,7 +29,7 @@ impl Core {
         ensures ok { IfOk result (λ reply. IsStep _layout.now (Event.DevTake lane) self.old reply self.new) }
         ensures err { OnErr result (self.new ≡ self.old) }
     {
-        let (device, front) = (&mut self.device, &mut self.front);
+        let (device, front) = (&mut self.device, &self.front);
         device_takes(alloc, _layout, lane, &self.host, device, front)
     }
 
@@ -53,7 +52,7 @@ impl Core {
         ensures { IsStep _layout.now (Event.DevPost lane slot) self.old result self.new }
     {
         let (host, device) = (&mut self.host, &mut self.device);
-        device_posts(_layout, lane, slot, host, device, &mut self.front)
+        device_posts(_layout, lane, slot, host, device, &self.front)
     }
 
     /// The command that the physical controller holds in a slot of a lane fails with that status. Idle where it holds none there, Ignored
@@ -64,7 +63,7 @@ impl Core {
         ensures { IsStep _layout.now (Event.DevFail lane slot status) self.old result self.new }
     {
         let (host, device) = (&mut self.host, &mut self.device);
-        device_fails(_layout, lane, slot, status, host, device, &mut self.front)
+        device_fails(_layout, lane, slot, status, host, device, &self.front)
     }
 }
 
@@ -76,22 +75,21 @@ fn device_takes(
     lane: u8,
     host: &Host,
     device: &mut Device,
-    front: &mut Front,
+    _front: &Front,
 ) -> Result<Reply, NoMemory>
-    requires { IsOf _layout.now (state_of host.now device.old front.old) }
+    requires { IsOf _layout.now (state_of host.now device.old _front.now) }
     ensures ok { IfOk result (λ reply.
-        IsStep _layout.now (Event.DevTake lane) (state_of host.now device.old front.old) reply (state_of host.now device.new front.new)) }
-    ensures err { OnErr result ((device.new ≡ device.old) × (front.new ≡ front.old)) }
-    ensures tails { TailsStay device.old.lanes device.new.lanes front.old front.new }
+        IsStep _layout.now (Event.DevTake lane) (state_of host.now device.old _front.now) reply (state_of host.now device.new _front.now)) }
+    ensures err { OnErr result (device.new ≡ device.old) }
+    ensures tails { tails_of device.new.lanes ≡ tails_of device.old.lanes }
 {
     if lane >= device.lanes() {
         return Ok(Reply::Ignored);
     }
-    let Some(tag) = device.front_identifier(lane, host) else {
+    if !device.waits(lane) {
         return Ok(Reply::Idle);
-    };
+    }
     device.take(alloc, lane, host)?;
-    front.lanes[usize::from(lane)].stands(tag as u8, Standing::InDevice);
     Ok(Reply::Done)
 }
 
@@ -109,7 +107,7 @@ fn device_moves(
     requires { IsOf _layout.now (state_of host.old device.old _front.now) }
     ensures step { IsStep _layout.now (Event.DevMove lane slot number) (state_of host.old device.old _front.now) result
         (state_of host.new device.new _front.now) }
-    ensures tails { TailsStay device.old.lanes device.new.lanes _front.now _front.now }
+    ensures tails { tails_of device.new.lanes ≡ tails_of device.old.lanes }
 {
     if !has_slot(device, lane, slot) {
         return Reply::Ignored;
@@ -126,23 +124,17 @@ fn device_posts(
     slot: u8,
     host: &mut Host,
     device: &mut Device,
-    front: &mut Front,
+    _front: &Front,
 ) -> Reply
-    requires { IsOf _layout.now (state_of host.old device.old front.old) }
-    ensures step { IsStep _layout.now (Event.DevPost lane slot) (state_of host.old device.old front.old) result (state_of host.new device.new front.new) }
-    ensures tails { TailsStay device.old.lanes device.new.lanes front.old front.new }
+    requires { IsOf _layout.now (state_of host.old device.old _front.now) }
+    ensures step { IsStep _layout.now (Event.DevPost lane slot) (state_of host.old device.old _front.now) result (state_of host.new device.new _front.now) }
+    ensures tails { tails_of device.new.lanes ≡ tails_of device.old.lanes }
 {
     if !has_slot(device, lane, slot) {
         return Reply::Ignored;
     }
-    let posted = device.posted(lane);
-    match device.post(lane, slot, host) {
-        Response::Idle => Reply::Idle,
-        Response::Done => {
-            front.lanes[usize::from(lane)].stands(slot, Standing::Answered(posted));
-            Reply::Done
-        }
-    }
+    let response = device.post(lane, slot, host);
+    reply_of(response)
 }
 
 // The command that the physical controller holds in a slot of a lane fails with that status.
@@ -154,12 +146,12 @@ fn device_fails(
     status: Status,
     host: &mut Host,
     device: &mut Device,
-    front: &mut Front,
+    _front: &Front,
 ) -> Reply
-    requires { IsOf _layout.now (state_of host.old device.old front.old) }
-    ensures step { IsStep _layout.now (Event.DevFail lane slot status) (state_of host.old device.old front.old) result
-        (state_of host.new device.new front.new) }
-    ensures tails { TailsStay device.old.lanes device.new.lanes front.old front.new }
+    requires { IsOf _layout.now (state_of host.old device.old _front.now) }
+    ensures step { IsStep _layout.now (Event.DevFail lane slot status) (state_of host.old device.old _front.now) result
+        (state_of host.new device.new _front.now) }
+    ensures tails { tails_of device.new.lanes ≡ tails_of device.old.lanes }
 {
     if !has_slot(device, lane, slot) {
         return Reply::Ignored;
@@ -170,9 +162,7 @@ fn device_fails(
     if status.is_success() {
         return Reply::Ignored;
     }
-    let posted = device.posted(lane);
     device.fail(lane, slot, status, host);
-    front.lanes[usize::from(lane)].stands(slot, Standing::Answered(posted));
     Reply::Done
 }
 

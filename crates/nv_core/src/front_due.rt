@@ -48,7 +48,6 @@ impl Front {
     pub fn reap_due<C: MemoryCell>(&self, layout: &Layout, lane: u8, host: &[C]) -> bool
         requires { IsLent layout.now self.now (C.bytes host.now) }
         ensures answer { result ≡ waits_in layout.now lane (slice_get self.now.lanes lane) (C.bytes host.now) }
-        ensures due { (w : World) → IsSideOf self.now (C.bytes host.now) w → IsLive layout.now w → result ≡ due layout.now (Event.Reap lane) w }
         ensures beside { (w : World) → IsBeside self.now (C.bytes host.now) w → IsLive layout.now w → result ≡ due layout.now (Event.Reap lane) w }
     {
         let at = usize::from(lane);

@@ -71,8 +71,8 @@ fn end_part(kept: &mut Progress)
     ensures { kept.new ≡ part_ended kept.old }
 {
     *kept = match mem::replace(kept, Progress::Nothing) {
-        Progress::Going(plan, _) => Progress::Over(plan),
-        Progress::Part(part, _) => Progress::PartOver(part),
+        Progress::Going(plan) => Progress::Over(plan),
+        Progress::Part(part) => Progress::PartOver(part),
         other => other,
     };
 }

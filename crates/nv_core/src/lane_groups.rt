@@ -141,7 +141,7 @@ fn plan_in(kept: &Progress) -> Option<&Plan>
     ensures { MatchOption result (plan_kept kept.now ≡ None) (λ plan. plan_kept kept.now ≡ Some plan.now) }
 {
     match kept {
-        Progress::Going(plan, _) | Progress::Over(plan) => Some(plan),
+        Progress::Going(plan) | Progress::Over(plan) => Some(plan),
         _ => None,
     }
 }

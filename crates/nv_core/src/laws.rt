@@ -4,7 +4,7 @@
 //! these places alone.
 
 ghost use Rattle.std.specs.Prelude.{◌≡◌, ℕ, List, Some, length, slice_get};
-ghost use Rattle.nv_core.specs.Front.{IsBeside, IsReaped, IsSideOf, IsSideStep, IsStepBeside, Side, opening_side};
+ghost use Rattle.nv_core.specs.Front.{IsBeside, IsReaped, IsSideOf, IsSideStep, IsStepBeside, IsStepInEach, Side, opening_side};
 ghost use Rattle.nv_core.specs.Kept.{IsKept, IsLent};
 ghost use Rattle.nv_laws_sound.specs.Mediators.{IsMediators};
 ghost use Rattle.nv_laws_sound.specs.Unplaced.{IsControllers};
@@ -25,8 +25,11 @@ pub fn a_front_begins_at_the_start()
 /// A call is a step of each world that has the side but for the places of parts: it is answered as the definition's step is, and the world after that step has
 /// the new side and memory in the same way.
 pub fn a_call_is_a_step_of_each_world()
-    ensures { (geometry : Geometry) (e : Event) (old new : Side) (before after : List ℕ) (r : Reply) (w : World) → IsMediators e →
+    ensures step { (geometry : Geometry) (e : Event) (old new : Side) (before after : List ℕ) (r : Reply) (w : World) → IsMediators e →
         IsSideStep geometry e old before r new after → length new.tails ≡ length old.tails → IsBeside old before w →
+        IsStepBeside geometry e w r new after }
+    ensures handed { (geometry : Geometry) (e : Event) (old new : Side) (before after : List ℕ) (r : Reply) (w : World) →
+        IsStepInEach geometry e old before r new after → length new.tails ≡ length old.tails → IsBeside old before w →
         IsStepBeside geometry e w r new after }
 {}
 
@@ -40,6 +43,9 @@ pub fn the_controller_leaves_a_side_alone()
 pub fn a_call_may_follow_a_call()
     ensures step { (geometry : Geometry) (e : Event) (old new : Side) (before after : List ℕ) (r : Reply) → IsMediators e →
         IsSideStep geometry e old before r new after → length new.tails ≡ length old.tails → length after ≡ length before →
+        IsLent geometry old before → IsLent geometry new after }
+    ensures handed { (geometry : Geometry) (e : Event) (old new : Side) (before after : List ℕ) (r : Reply) → IsMediators e →
+        IsStepInEach geometry e old before r new after → length new.tails ≡ length old.tails → length after ≡ length before →
         IsLent geometry old before → IsLent geometry new after }
     ensures reaped { (geometry : Geometry) (lane : ℕ) (l : Lane) (old new : Side) (memory : List ℕ) → slice_get old.lanes lane ≡ Some l →
         IsReaped geometry lane old new memory → new.tails ≡ old.tails → IsLent geometry old memory → IsLent geometry new memory }

@@ -14,8 +14,8 @@
 //! `world_of` (`specs/State`) says which world a state means. A call ensures one equation: the new state's world and the reply are the definition's
 //! step of the old state's world. Where memory is refused, nothing has changed.
 //!
-//! What is known of a tag's command is kept beside `nv_tags`, lane by lane: the reads of its lists while it is planned, then its plan and where the
-//! physical command is. A command that was handed on keeps its whole plan in its leader, since the definition's plan follows from job, map,
+//! What is known of a tag's command is kept beside `nv_tags`, lane by lane: the reads of its lists while it is planned, then its plan. Where the
+//! physical command is then, nobody keeps: it follows from the rings and the physical controller (`specs/Places`). A command that was handed on keeps its whole plan in its leader, since the definition's plan follows from job, map,
 //! namespace and limit. Its further tags keep the number of their part. Commands of one tag go through functions without a loop. The number of
 //! parts or of extents decides that.
 //!
@@ -43,7 +43,6 @@ mod lane_flying;
 mod lane_groups;
 mod lane_handing;
 mod lane_opening;
-mod lane_standing;
 pub mod laws;
 mod layout;
 mod lending;
@@ -56,7 +55,6 @@ mod progress;
 mod reaping;
 mod seat;
 mod showing;
-mod standing;
 mod state;
 mod submitting;
 mod tagged;

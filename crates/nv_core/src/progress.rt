@@ -2,7 +2,6 @@
 
 ghost use Rattle.std.specs.Prelude.{◌≡◌, ◌<◌, slice_set, vec_len};
 
-use crate::standing::Standing;
 use nv_plan::{Plan, Transcript};
 
 /// What is kept of a tag's command, by the point at which it is.
@@ -14,12 +13,12 @@ pub(crate) enum Progress {
     Nothing,
     /// The command was taken, and these reads of its lists were made.
     Reading(Transcript),
-    /// The command was handed on by this plan, and its first part is there.
-    Going(Plan, Standing),
+    /// The command was handed on by this plan, and its first part has not ended.
+    Going(Plan),
     /// The command's first part has ended, and this was the command's plan.
     Over(Plan),
-    /// A further part, by its number, is there.
-    Part(u8, Standing),
+    /// A further part, by its number, was handed on.
+    Part(u8),
     /// A further part, by its number, has ended.
     PartOver(u8),
 }

@@ -2,7 +2,7 @@
 
 ghost use Rattle.std.specs.Prelude.{◌≡◌, ◌<◌, IfOk, Ok, OnErr, length, slice_get};
 ghost use Rattle.std.specs.Result.{result_ok};
-ghost use Rattle.nv_core.specs.Front.{IsBeside, IsLive, IsLiveStep, IsReaped, IsStepBeside};
+ghost use Rattle.nv_core.specs.Front.{IsBeside, IsLive, IsLiveStep, IsReaped};
 ghost use Rattle.nv_core.specs.Kept.{IsLent};
 ghost use Rattle.nv_core.specs.Reaping.{answer_of, names_command};
 ghost use Rattle.nv_mem.specs.Bytes.{InMemory};
@@ -49,8 +49,6 @@ impl Front {
         ensures ended { result ≡ Ok Reply.Done → IsReaped layout.now lane self.old self.new (C.bytes host.now) }
         ensures there { result ≡ Ok Reply.Done → lane < length self.old.lanes }
         ensures same { (result ≡ Ok Reply.Done → ⊥) → self.new ≡ self.old }
-        ensures beside { IfOk result (λ reply. (w : World) → IsBeside self.old (C.bytes host.now) w → IsLive layout.now w →
-            IsStepBeside layout.now (Event.Reap lane) w reply self.new (C.bytes host.now)) }
         ensures stray { OnErr result ((w : World) → IsBeside self.old (C.bytes host.now) w → IsLive layout.now w → ⊥) }
         ensures tails { self.new.tails ≡ self.old.tails }
     {

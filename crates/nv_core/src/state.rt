@@ -6,6 +6,8 @@ use nv_mem::Host;
 use std::marker::Model;
 
 /// The mediated world: the host's memory, the physical controller, and the mediator's side.
+///
+/// Nothing of it keeps where a part is that was handed on: that follows from the rings and the physical controller.
 #[derive(Drop)]
 pub struct Core {
     pub(crate) host: Host,
@@ -16,11 +18,11 @@ pub struct Core {
 impl Model for Core {
     ghost use Rattle.std.specs.Prelude.{◌≡◌};
     ghost use Rattle.nv_core.specs.Front.{tails_of};
-    ghost use Rattle.nv_core.specs.State.{State};
+    ghost use Rattle.nv_core.specs.State.{State, state_of};
 
     ghost Value = { State };
 
-    ghost view = { λ c. record { host = c.host; device = c.device; lanes = c.front.lanes; controllers = c.front.controllers } };
+    ghost view = { λ c. state_of c.host c.device c.front };
 
     ghost invariant = { λ c. tails_of c.device.lanes ≡ c.front.tails };
 }

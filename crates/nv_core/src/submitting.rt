@@ -1,7 +1,7 @@
 //! Commands that were taken, planned, and handed on or answered.
 
 ghost use Rattle.std.specs.Prelude.{◌≡◌, ◌<◌, ◌↔◌, [], IfOk, IfSome, IsTrue, List, None, OnErr, Some, length, slice_get};
-ghost use Rattle.nv_core.specs.Front.{HasTailMoved, IsSideStep};
+ghost use Rattle.nv_core.specs.Front.{HasTailMoved, IsStepInEach};
 ghost use Rattle.nv_core.specs.Kept.{IsLent};
 ghost use Rattle.nv_core.specs.Submit.{HaveRoom, IsCarriedOut, IsCurrentIn, IsGoing, IsJobOf, IsSubmitted, WaitsForPlan};
 ghost use Rattle.nv_core.specs.Tags.{state_in};
@@ -43,7 +43,8 @@ impl Front {
     ) -> Result<Reply, NoMemory>
         requires { IsLent layout.now self.old (C.bytes host.old) }
         ensures ok { IfOk result (λ reply.
-            IsSideStep layout.now (Event.Submit lane tag) self.old (C.bytes host.old) reply self.new (C.bytes host.new)) }
+            IsStepInEach layout.now (Event.Submit lane tag) self.old (C.bytes host.old) reply self.new (C.bytes host.new)) }
+        ensures same { IfOk result (λ reply. (reply ≡ Reply.Done → ⊥) → self.new ≡ self.old) }
         ensures err { OnErr result ((self.new ≡ self.old) × (C.bytes host.new ≡ C.bytes host.old)) }
         ensures tails { HasTailMoved lane self.old.tails self.new.tails }
         ensures len { length (C.bytes host.new) ≡ length (C.bytes host.old) }
@@ -79,7 +80,7 @@ impl Front {
         requires { IsLent layout.now self.old (C.bytes host.old) }
         ensures some { IfSome result (λ reply.
             IsCurrentIn layout.now self.old.lanes plan
-            × IsSideStep layout.now (Event.Submit plan.job.lane plan.job.tag) self.old (C.bytes host.old) reply self.new (C.bytes host.new)) }
+            × IsStepInEach layout.now (Event.Submit plan.job.lane plan.job.tag) self.old (C.bytes host.old) reply self.new (C.bytes host.new)) }
         ensures done { IfSome result (λ reply. reply ≡ Reply.Done) }
         ensures none { result ≡ None → (self.new ≡ self.old)
             × ((C.bytes host.new ≡ C.bytes host.old) × (IsCurrentIn layout.now self.old.lanes plan → ⊥)) }
@@ -223,7 +224,6 @@ fn hand_on<C: MemoryCell>(
     ensures len { length (C.bytes host.new) ≡ length (C.bytes host.old) }
     ensures fits { tail.new < ring_size }
 {
-    let at = *tail;
     hand_all(&plan, place, ring, host, tail);
-    ring.fly(place.tag, plan, at);
+    ring.fly(place.tag, plan);
 }

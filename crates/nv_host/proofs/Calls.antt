@@ -1,12 +1,14 @@
 -- A call of a mediator that is served: what it needs, what its type keeps after it, and what its callers see.
-use Rattle.std.proofs.Common.{◌≡◌, ℕ, ◌≤◌, [], false, List, length, Option, Some, None, refl, sym, subst, ap, ◌∙◌}
+use Rattle.std.proofs.Common.{◌≡◌, ℕ, ◌≤◌, [], true, false, List, length, Option, Some, None, refl, sym, subst, ap, ◌∙◌}
 use Rattle.std.specs.Prelude.{Err, IfOk, IfSome, Ok, OnErr, Result}
 use Rattle.std.proofs.lemmas.List.{ext_get_or}
+use Rattle.nv_core.proofs.Alike.{counted-alike}
+use Rattle.nv_core.proofs.Besides.{beside-of}
 use Rattle.nv_core.proofs.Delegated.{tails-rung}
-use Rattle.nv_core.proofs.FrontLaws.{own-kept, step-beside, step-lent}
+use Rattle.nv_core.proofs.FrontLaws.{comes-beside, each-lent, in-beside, own-kept}
 use Rattle.nv_core.proofs.KeptStates.{length-tails}
 use Rattle.nv_core.proofs.Sides.{own-side, own-world}
-use Rattle.nv_core.specs.Front.{CountMore, HasTailMoved, IsSideStep, Side, tails_of, with_side}
+use Rattle.nv_core.specs.Front.{ComesTo, CountMore, HasTailMoved, IsSideStep, IsStepInEach, Side, tails_of, with_side}
 use Rattle.nv_core.specs.Kept.{IsLent}
 use Rattle.nv_host.proofs.Accepted.{few-lanes, lies-out}
 use Rattle.nv_host.specs.Served.{IsDone, IsServed, Served}
@@ -21,6 +23,7 @@ use Rattle.nv_mediator.proofs.Counts.{counts-few}
 use Rattle.nv_model.specs.Controller.{Controller}
 use Rattle.nv_model.specs.Memory.{byte_in}
 use Rattle.nv_model.specs.declared.reply.Reply.{Reply}
+use Rattle.nv_model.specs.declared.reply.Reply.TheVariants as reply
 use Rattle.nv_world_model.proofs.Replies.{step-answers}
 use Rattle.nv_world_model.specs.SetUp.{most_lanes}
 use Rattle.nv_world_model.specs.Step.{After, is_telling, step}
@@ -57,7 +60,8 @@ bytes-same before after sized same = ext_get_or 0 after before sized (λ i below
 
 -- ---- what a call comes to
 
-module _ (h : Served) (is : IsServed h) (e : Event) (mine : IsMediators e) (new : Side) (before after : List ℕ) (r : Reply)
+-- a call whose step is the definition's places and all
+module _ (h : Served) (e : Event) (new : Side) (before after : List ℕ) (r : Reply)
     (made : IsSideStep h.setup.geometry e h.side before r new after) (many : length new.tails ≡ length h.side.tails) where
   abbrev own : World
   own = own-world h.side before
@@ -65,9 +69,8 @@ module _ (h : Served) (is : IsServed h) (e : Event) (mine : IsMediators e) (new 
   made-own : (let a : After = record { world = with_side new after own; reply = r } in a) ≡ step h.setup.geometry e own
   made-own = made own (own-side h.side before)
 
-  -- where the reply reports nothing, nothing has changed
-  side-dull : is_telling r ≡ false → with_side new after own ≡ own
-  side-dull quiet =
+  still : is_telling r ≡ false → with_side new after own ≡ own
+  still quiet =
       ap (λ (a : After). a.world) made-own
       ∙ (step-answers h.setup.geometry e own).dull (ap (λ (a : After). is_telling a.reply) (sym made-own) ∙ quiet)
 
@@ -76,13 +79,32 @@ module _ (h : Served) (is : IsServed h) (e : Event) (mine : IsMediators e) (new 
       tails-rung own.device new.tails
       (many ∙ ap (λ (ts : List ℕ). length ts) (sym (own-side h.side before).tails) ∙ length-tails own.device)
 
-  side-same : with_side new after own ≡ own → new ≡ h.side
-  side-same still =
-      ap (λ (ls : List Lane). let x : Side = record { lanes = ls; tails = new.tails; controllers = new.controllers } in x) (ap (λ (w : World). w.lanes) still)
+  -- where the reply reports nothing, nothing has changed
+  side-dull : is_telling r ≡ false → new ≡ h.side
+  side-dull quiet =
+      ap (λ (ls : List Lane). let x : Side = record { lanes = ls; tails = new.tails; controllers = new.controllers } in x) (ap (λ (w : World). w.lanes) (still quiet))
       ∙ ap (λ (ts : List ℕ). let x : Side = record { lanes = h.side.lanes; tails = ts; controllers = new.controllers } in x)
-      (sym tails-are ∙ ap (λ (w : World). tails_of w.device) still ∙ (own-side h.side before).tails)
+      (sym tails-are ∙ ap (λ (w : World). tails_of w.device) (still quiet) ∙ (own-side h.side before).tails)
       ∙ ap (λ (cs : List Controller). let x : Side = record { lanes = h.side.lanes; tails = h.side.tails; controllers = cs } in x)
-      (ap (λ (w : World). w.controllers) still)
+      (ap (λ (w : World). w.controllers) (still quiet))
+
+module _ (h : Served) (is : IsServed h) (e : Event) (mine : IsMediators e) (new : Side) (before after : List ℕ) (r : Reply)
+    (made : IsStepInEach h.setup.geometry e h.side before r new after) (dull : is_telling r ≡ false → new ≡ h.side)
+    (many : length new.tails ≡ length h.side.tails) where
+  abbrev mine_own : World
+  mine_own = own-world h.side before
+
+  abbrev next_own : World
+  next_own = (step h.setup.geometry e mine_own).world
+
+  comes : ComesTo h.setup.geometry e mine_own r new after
+  comes = made mine_own (beside-of h.side before mine_own (own-side h.side before))
+
+  host-dull : is_telling r ≡ false → byte_in after ≡ byte_in before
+  host-dull quiet =
+      ap (λ (a : After). a.world.host) comes
+      ∙ ap (λ (w : World). w.host)
+      ((step-answers h.setup.geometry e mine_own).dull (ap (λ (a : After). is_telling a.reply) (sym comes) ∙ quiet))
 
   pub step-done : length after ≡ length before → IsDone e h before r (serving h new) after
   step-done sized =
@@ -91,24 +113,23 @@ module _ (h : Served) (is : IsServed h) (e : Event) (mine : IsMediators e) (new 
           setup = refl;
           closed = refl;
           logs = (λ first log z leads.
-              let on = step-beside h.setup.geometry e mine h.side new before after r made many z leads.beside in
+              let on = comes-beside h.setup.geometry e h.side new before after r z (made z leads.beside) many leads.beside in
               (on.reply, call-reached h.setup first e h.side new before after r log z mine leads on));
         };
-        worlds = (λ w on. step-beside h.setup.geometry e mine h.side new before after r made many w on);
-        dull = (λ quiet.
-            let still = side-dull quiet in
-            (ap (serving h) (side-same still), bytes-same before after sized (ap (λ (w : World). w.host) still)));
+        worlds = (λ w on. comes-beside h.setup.geometry e h.side new before after r w (made w on) many on);
+        dull = (λ quiet. (ap (serving h) (dull quiet), bytes-same before after sized (host-dull quiet)));
       }
 
   module _ (lent : IsLent h.setup.geometry h.side before) (sized : length after ≡ length before) where
     lent-after : IsLent h.setup.geometry new after
-    lent-after = step-lent h.setup.geometry e mine h.side new before after r made many sized lent
+    lent-after = each-lent h.setup.geometry e mine h.side new before after r made many sized lent
 
-    counted-own : IsCounted h.setup.geometry (with_side new after own)
+    counted-own : IsCounted h.setup.geometry (with_side new after mine_own)
     counted-own =
-        subst (IsCounted h.setup.geometry) (sym (ap (λ (a : After). a.world) made-own))
-        (side-counted (length before) h.setup.geometry e own lent.laid_out (own-kept h.setup.geometry h.side before is.kept)
-        (is.counted before own (own-side h.side before)))
+        counted-alike h.setup.geometry next_own (with_side new after mine_own) (ap (λ (a : After). a.world.lanes) comes)
+        (ap (λ (a : After). a.world.controllers) comes)
+        (side-counted (length before) h.setup.geometry e mine_own lent.laid_out (own-kept h.setup.geometry h.side before is.kept)
+        (is.counted before mine_own (own-side h.side before)))
 
     pub step-served : IsServed (serving h new)
     step-served =
@@ -118,7 +139,7 @@ module _ (h : Served) (is : IsServed h) (e : Event) (mine : IsMediators e) (new 
           lanes = sym lent-after.kept.many ∙ many ∙ is.kept.many ∙ is.lanes;
           closed = is.closed;
           kept = lent-after.kept;
-          counted = (λ memory w on. still-counted h.setup.geometry (with_side new after own) w on.lanes on.controllers counted-own);
+          counted = (λ memory w on. still-counted h.setup.geometry (with_side new after mine_own) w on.lanes on.controllers counted-own);
         }
 
 -- ---- calls as the code makes them
@@ -132,13 +153,26 @@ many-moved lane old new moved = ap (λ (ts : List ℕ). length ts) moved.is ∙ 
 
 -- a call whose view is the one that its caller has
 module _ (h o : Served) (view : h ≡ o) (is : IsServed h) (e : Event) (mine : IsMediators e) (new : Side) (before after : List ℕ) (r : Reply)
+    (many : length new.tails ≡ length h.side.tails) (sized : length after ≡ length before) where
+  module _ (made : IsStepInEach h.setup.geometry e h.side before r new after) (dull : is_telling r ≡ false → new ≡ h.side) where
+    each-done : IsDone e o before r (serving h new) after
+    each-done = subst (λ (x : Served). IsDone e x before r (serving h new) after) view (step-done h is e mine new before after r made dull many sized)
+
+    each-served : length before ≡ o.setup.host_bytes → IsServed (serving h new)
+    each-served lent = step-served h is e mine new before after r made dull many (served-lent h o view is before lent) sized
+
+module _ (h o : Served) (view : h ≡ o) (is : IsServed h) (e : Event) (mine : IsMediators e) (new : Side) (before after : List ℕ) (r : Reply)
     (made : IsSideStep h.setup.geometry e h.side before r new after) (many : length new.tails ≡ length h.side.tails)
     (sized : length after ≡ length before) where
   pub call-done : IsDone e o before r (serving h new) after
-  call-done = subst (λ (x : Served). IsDone e x before r (serving h new) after) view (step-done h is e mine new before after r made many sized)
+  call-done =
+      each-done h o view is e mine new before after r many sized (in-beside h.setup.geometry e mine h.side new before after r made)
+      (side-dull h e new before after r made many)
 
   pub call-served : length before ≡ o.setup.host_bytes → IsServed (serving h new)
-  call-served lent = step-served h is e mine new before after r made many (served-lent h o view is before lent) sized
+  call-served =
+      each-served h o view is e mine new before after r many sized (in-beside h.setup.geometry e mine h.side new before after r made)
+      (side-dull h e new before after r made many)
 
 -- nothing has changed
 pub same-served : (h : Served) (new : Side) → IsServed h → new ≡ h.side → IsServed (serving h new)
@@ -157,15 +191,37 @@ module _ {T E : Type 0} (h o : Served) (view : h ≡ o) (is : IsServed h) (e : E
   either-served (Ok t) made failed same lent = call-served h o view is e mine new before after (reply_of t) made many sized lent
   either-served (Err x) made failed same lent = same-served h new is (same failed)
 
+-- where nothing is reported, nothing was done
+dull-undone : (r : Reply) → is_telling r ≡ false → r ≡ reply.Done → ⊥
+dull-undone r quiet same = (let bad : true ≡ false = ap is_telling (sym same) ∙ quiet in cc)
+
+-- a command was handed on, or nothing has changed
+module _ {E : Type 0} (h o : Served) (view : h ≡ o) (is : IsServed h) (e : Event) (mine : IsMediators e) (new : Side) (before after : List ℕ)
+    (Failed : Type 0) (many : length new.tails ≡ length h.side.tails) (sized : length after ≡ length before) where
+  pub handed-done : (result : Result Reply E) → IfOk result (λ r. IsStepInEach h.setup.geometry e h.side before r new after)
+      → IfOk result (λ r. (r ≡ reply.Done → ⊥) → new ≡ h.side) → IfOk result (λ r. IsDone e o before r (serving h new) after)
+  handed-done (Ok r) made same =
+      each-done h o view is e mine new before after r many sized made (λ quiet. same (dull-undone r quiet))
+  handed-done (Err x) made same = tt
+
+  pub handed-served : (result : Result Reply E) → IfOk result (λ r. IsStepInEach h.setup.geometry e h.side before r new after)
+      → IfOk result (λ r. (r ≡ reply.Done → ⊥) → new ≡ h.side) → OnErr result Failed → (Failed → new ≡ h.side) → length before ≡ o.setup.host_bytes
+      → IsServed (serving h new)
+  handed-served (Ok r) made same failed stays lent =
+      each-served h o view is e mine new before after r many sized made (λ quiet. same (dull-undone r quiet)) lent
+  handed-served (Err x) made same failed stays lent = same-served h new is (stays failed)
+
 -- a plan was carried out, or nothing has changed
 module _ (h o : Served) (view : h ≡ o) (is : IsServed h) (e : Event) (mine : IsMediators e) (new : Side) (before after : List ℕ)
     (Current Rest : Type 0) (many : length new.tails ≡ length h.side.tails) (sized : length after ≡ length before) where
-  pub plan-done : (result : Option Reply) → IfSome result (λ r. Current × IsSideStep h.setup.geometry e h.side before r new after)
-      → IfSome result (λ r. Current × IsDone e o before r (serving h new) after)
-  plan-done (Some r) made = (made.0, call-done h o view is e mine new before after r made.1 many sized)
-  plan-done None made = tt
+  pub plan-done : (result : Option Reply) → IfSome result (λ r. Current × IsStepInEach h.setup.geometry e h.side before r new after)
+      → IfSome result (λ r. r ≡ reply.Done) → IfSome result (λ r. Current × IsDone e o before r (serving h new) after)
+  plan-done (Some r) made done =
+      (made.0, each-done h o view is e mine new before after r many sized made.1 (λ quiet. absurd (dull-undone r quiet done)))
+  plan-done None made done = tt
 
-  pub plan-served : (result : Option Reply) → IfSome result (λ r. Current × IsSideStep h.setup.geometry e h.side before r new after)
-      → (result ≡ None → (new ≡ h.side) × Rest) → length before ≡ o.setup.host_bytes → IsServed (serving h new)
-  plan-served (Some r) made none lent = call-served h o view is e mine new before after r made.1 many sized lent
-  plan-served None made none lent = same-served h new is (none refl).0
+  pub plan-served : (result : Option Reply) → IfSome result (λ r. Current × IsStepInEach h.setup.geometry e h.side before r new after)
+      → IfSome result (λ r. r ≡ reply.Done) → (result ≡ None → (new ≡ h.side) × Rest) → length before ≡ o.setup.host_bytes → IsServed (serving h new)
+  plan-served (Some r) made done none lent =
+      each-served h o view is e mine new before after r many sized made.1 (λ quiet. absurd (dull-undone r quiet done)) lent
+  plan-served None made done none lent = same-served h new is (none refl).0

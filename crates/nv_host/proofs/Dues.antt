@@ -1,5 +1,6 @@
 -- What is due, in each world that a log leads to.
 use Rattle.std.proofs.Common.{◌≡◌, ℕ, Bool, ◌&&◌, List, refl, sym, subst, ap, ◌∙◌}
+use Rattle.nv_core.proofs.Alike.{beside-told}
 use Rattle.nv_core.specs.Front.{IsBeside, IsLive, IsSideOf, Side}
 use Rattle.nv_host.proofs.Accepted.{leads-live}
 use Rattle.nv_host.specs.Served.{IsServed, LeadsTo, Served}
@@ -13,22 +14,6 @@ use Rattle.nv_world_model.specs.World.{Lane, World}
 use Rattle.nv_world_model.specs.declared.event.Event.{Event}
 use Rattle.nv_world_model.specs.declared.event.Event.TheVariants as event
 use Rattle.nv_world_model.specs.declared.logged.Logged.{Logged}
-
--- worlds that are the same but for places are told alike
-pub unplaced-due : (geometry : Geometry) (e : Event) → IsMediators e → (v w : World) → unplaced v ≡ unplaced w → due geometry e v ≡ due geometry e w
-unfolding due
-unplaced-due geometry e mine v w same =
-    ap (λ (a : After). is_due_kind e && is_done a.reply)
-    (sym (placed-alike geometry e v mine) ∙ ap (λ (u : World). after_unplaced (step geometry e u)) same ∙ placed-alike geometry e w mine)
-
--- in each world with a side but for places what is due in each with that side
-beside-told : (geometry : Geometry) (e : Event) → IsMediators e → (side : Side) (memory : List ℕ) (b : Bool)
-    → ((w : World) → IsSideOf side memory w → b ≡ due geometry e w) → (z : World) → IsBeside side memory z → b ≡ due geometry e z
-beside-told geometry e mine side memory b told z on =
-    let v : World = record z { lanes = side.lanes } in
-    let left : unplaced v ≡ unplaced z = ap (λ (ls : List Lane). let u : World = record z { lanes = ls } in u) (sym on.lanes) in
-    told v (record { host = on.host; lanes = refl; controllers = on.controllers; tails = on.tails })
-    ∙ unplaced-due geometry e mine v z left
 
 module _ (h o : Served) (view : h ≡ o) (memory : List ℕ) (b : Bool) where
   pub told-beside : (e : Event) → IsMediators e → ((w : World) → IsSideOf h.side memory w → b ≡ due h.setup.geometry e w)

@@ -1,9 +1,9 @@
 -- A Reap of a mediator that is served.
 use Rattle.std.proofs.Common.{◌≡◌, ℕ, ◌<◌, List, length, slice_get, Some, refl, sym, subst, ap, ◌∙◌}
 use Rattle.std.specs.Prelude.{Err, IfOk, Ok, OnErr, Result}
-use Rattle.nv_core.proofs.FrontLaws.{reaped-lent}
+use Rattle.nv_core.proofs.FrontLaws.{comes-beside, reaped-lent}
 use Rattle.nv_core.proofs.Sides.{own-side, own-world}
-use Rattle.nv_core.specs.Front.{IsBeside, IsLive, IsReaped, IsStepBeside, Side, with_side}
+use Rattle.nv_core.specs.Front.{IsBeside, IsLive, IsLiveStep, IsReaped, IsStepBeside, Side, with_side}
 use Rattle.nv_core.specs.Kept.{IsLent}
 use Rattle.nv_host.proofs.Accepted.{leads-live}
 use Rattle.nv_host.proofs.Calls.{same-served, served-lent, serving}
@@ -93,6 +93,14 @@ module _ {E : Type 0} (h o : Served) (view : h ≡ o) (is : IsServed h) (lane : 
   reap-stray (Err x) never =
       subst (λ (y : Served). IsUnreached y memory) view
       (λ first log z leads. never z leads.beside (leads-live h.setup is.accepted is.sound first h.side memory log z leads))
+
+-- in each world
+pub live-beside : {E : Type 0} (geometry : Geometry) (lane : ℕ) (old new : Side) (memory : List ℕ) (result : Result Reply E) → new.tails ≡ old.tails
+    → IfOk result (λ r. IsLiveStep geometry (event.Reap lane) old memory r new memory)
+    → IfOk result (λ r. (w : World) → IsBeside old memory w → IsLive geometry w → IsStepBeside geometry (event.Reap lane) w r new memory)
+live-beside geometry lane old new memory (Ok r) tails made = λ w on live.
+    comes-beside geometry (event.Reap lane) old new memory memory r w (made w on live) (ap (λ (ts : List ℕ). length ts) tails) on
+live-beside geometry lane old new memory (Err x) tails made = tt
 
 -- ---- as a run of a lane that is closed
 

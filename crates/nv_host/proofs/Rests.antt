@@ -10,7 +10,7 @@ use Rattle.nv_core.specs.Jobs.{holder_in, job_in, job_with}
 use Rattle.nv_core.specs.Reaping.{answer_of, is_new, names_command, next_completion, waits_in}
 use Rattle.nv_core.specs.Submit.{IsOfTag}
 use Rattle.nv_core.specs.declared.holding.Holder.{Holder}
-use Rattle.nv_host.proofs.Dues.{unplaced-due}
+use Rattle.nv_core.proofs.Alike.{unplaced-due}
 use Rattle.nv_host.specs.Passes.{IsOwn, NonePosts, NoneTakes, NoneWaits, NoneWaitsAt}
 use Rattle.nv_host.specs.Served.{IsAccepted, is_offered}
 use Rattle.nv_host.specs.Work.{IsIn, NotDue, Rests, Scene, Waits}

@@ -1,59 +1,46 @@
-use Rattle.std.proofs.Common.{◌∙◌, length, set, refl, sym, ap, subst}
-use Rattle.nv_core.proofs.Delegated.{tails-completed}
-use Rattle.nv_core.proofs.DeviceNeeds.{holding-at}
-use Rattle.nv_core.proofs.DevicePosts.{ended-by, held-flying, post-done, post-no_slot, post-not}
+use Rattle.std.proofs.Common.{◌≡◌, ◌∙◌, length, refl, sym, ap, subst}
+use Rattle.std.specs.Prelude.{IfSome}
+use Rattle.nv_core.proofs.Delegated.{posts-step, tails-completed}
+use Rattle.nv_core.proofs.DevicePosts.{post-no_slot}
 use Rattle.nv_core.proofs.DeviceSteps.{both-below}
-use Rattle.nv_core.specs.Front.{Side, tails_of}
-use Rattle.nv_core.specs.State.{IsOf, IsStep, State, state_of}
-use Rattle.nv_device.specs.Physical.{held_at}
+use Rattle.nv_core.specs.Front.{tails_of}
+use Rattle.nv_core.specs.State.{IsStep, State, state_of}
+use Rattle.nv_device.specs.Physical.{done_where, has_ended, held_at}
+use Rattle.nv_device.specs.Posting.{IsPosted}
 use Rattle.nv_device.specs.State.{Physical}
+use Rattle.nv_device.specs.declared.response.Response.{Response}
 use Rattle.nv_device.specs.declared.response.Response.TheVariants as response
+use Rattle.nv_model.specs.declared.reply.Reply.{Reply}
 use Rattle.nv_model.specs.declared.reply.Reply.TheVariants as reply
 use Rattle.nv_world_model.specs.Area.{tag_count}
+use Rattle.nv_world_model.specs.Device.{held_status}
 use Rattle.nv_world_model.specs.declared.event.Event.TheVariants as event
 use Rattle.nv_core.proofs.device_events.device_posts.Goals as goal
 
 pub returns-then-not-has_slot-clause-step : goal.returns-then-not-has_slot-clause-step
 returns-then-not-has_slot-clause-step c =
-    let s : State = state_of c.args.host.now c.args.device.now c.args.front.now in
+    let s : State = state_of c.args.host.now c.args.device.now c.args._front.now in
     post-no_slot c.args._layout.now s c.requires c.args.lane c.args.slot (sym c.has_slot.ensures ∙ c.if-not-has_slot.true)
 
-pub stands-requires : goal.stands-requires
-stands-requires c =
-    let f : Side = record { lanes = c.front.inside.lanes.items; tails = c.front.inside.tails.items; controllers = c.front.inside.controllers.items } in
-    let s : State = state_of c.args.host.now c.args.device.now f in
-    let is = subst (λ (x : Side). IsOf c.args._layout.now (state_of c.args.host.now c.args.device.now x)) (sym c.front.view_is) c.requires in
+pub returns-clause-step : goal.returns-clause-step
+returns-clause-step c =
+    let s : State = state_of c.args.host.now c.args.device.now c.args._front.now in
     let there = both-below c.args.lane (length s.device.lanes) c.args.slot tag_count c.has_slot.result c.has_slot.ensures c.if-not-has_slot.false in
-    let o = ended-by (held_at s.device c.args.lane c.args.slot) c.in-Done.ensures.response in
-    held-flying c.args._layout.now s c.args.lane c.args.slot o.h (holding-at c.args._layout.now s c.args.lane c.args.slot o.h is there.0 o.there)
-    c.from.result c.index_mut.result.now c.from.ensures c.index_mut.ensures.value
+    subst (λ (r : Reply). IsStep c.args._layout.now (event.DevPost c.args.lane c.args.slot) s r (state_of c.post-response.new.host c.post-response.new.self c.args._front.now))
+    (sym c.reply_of.ensures)
+    (posts-step c.args._layout.now c.args.host.now c.args.device.now c.args._front.now c.requires c.args.lane c.args.slot c.post-response.result
+    c.post-response.new.host c.post-response.new.self there.0 there.1 c.post-response.ensures.response c.post-response.ensures.done c.post-response.ensures.idle
+    c.post-response.ensures.size)
 
-pub returns-in-Idle-clause-step : goal.returns-in-Idle-clause-step
-returns-in-Idle-clause-step c =
-    let s : State = state_of c.args.host.now c.args.device.now c.args.front.now in
-    let there = both-below c.args.lane (length s.device.lanes) c.args.slot tag_count c.has_slot.result c.has_slot.ensures c.if-not-has_slot.false in
-    post-not c.args._layout.now s c.requires c.args.lane c.args.slot c.post.new.host c.post.new.self there.0 there.1 c.in-Idle.ensures.response
-    (c.in-Idle.ensures.idle refl)
-
-pub returns-in-Idle-clause-tails : goal.returns-in-Idle-clause-tails
-returns-in-Idle-clause-tails c = (ap (λ (p : Physical). tails_of p.lanes) (c.in-Idle.ensures.idle refl).0, refl)
-
-pub returns-in-Done-clause-step : goal.returns-in-Done-clause-step
-returns-in-Done-clause-step c =
-    let f : Side = record { lanes = c.front.inside.lanes.items; tails = c.front.inside.tails.items; controllers = c.front.inside.controllers.items } in
-    let s : State = state_of c.args.host.now c.args.device.now f in
-    let is = subst (λ (x : Side). IsOf c.args._layout.now (state_of c.args.host.now c.args.device.now x)) (sym c.front.view_is) c.requires in
-    let there = both-below c.args.lane (length s.device.lanes) c.args.slot tag_count c.has_slot.result c.has_slot.ensures c.if-not-has_slot.false in
-    let o = ended-by (held_at s.device c.args.lane c.args.slot) c.in-Done.ensures.response in
-    let new : State = record s { host = c.post.new.host; device = c.post.new.self; lanes = set s.lanes c.from.result c.stands.new.self } in
-    subst (λ (x : Side). IsStep c.args._layout.now (event.DevPost c.args.lane c.args.slot) (state_of c.args.host.now c.args.device.now x) reply.Done new) c.front.view_is
-    (post-done c.args._layout.now s is c.args.lane c.args.slot c.posted-posted.result c.from.result c.post.new.host c.post.new.self c.index_mut.result.now c.stands.new.self o
-    (holding-at c.args._layout.now s c.args.lane c.args.slot o.h is there.0 o.there)
-    (c.in-Done.ensures.done refl) c.in-Done.ensures.size c.posted-posted.ensures.value c.from.ensures c.index_mut.ensures.value c.stands.ensures)
-
-pub returns-in-Done-clause-tails : goal.returns-in-Done-clause-tails
-returns-in-Done-clause-tails c = (
-  tails-completed c.args.lane c.args.slot c.args.host.now c.post.new.host c.args.device.now c.post.new.self response.Done refl c.in-Done.ensures.response
-      c.in-Done.ensures.done,
-  ap (λ (x : Side). x.tails) c.front.view_is,
-)
+pub returns-clause-tails : goal.returns-clause-tails
+returns-clause-tails c =
+    by-response c.post-response.result c.post-response.ensures.response c.post-response.ensures.done c.post-response.ensures.idle
+  where
+    by-response : (r : Response) → r ≡ done_where (has_ended (held_at c.args.device.now c.args.lane c.args.slot))
+        → (r ≡ response.Done → IfSome (held_at c.args.device.now c.args.lane c.args.slot)
+        (λ h. IsPosted c.args.lane c.args.slot (held_status h) c.args.host.now c.args.device.now c.post-response.new.host c.post-response.new.self))
+        → (r ≡ response.Idle → (c.post-response.new.self ≡ c.args.device.now) × (c.post-response.new.host ≡ c.args.host.now))
+        → tails_of c.post-response.new.self.lanes ≡ tails_of c.args.device.now.lanes
+    by-response response.Done told done idle =
+        tails-completed c.args.lane c.args.slot c.args.host.now c.post-response.new.host c.args.device.now c.post-response.new.self response.Done refl told done
+    by-response response.Idle told done idle = ap (λ (p : Physical). tails_of p.lanes) (idle refl).0

@@ -14,7 +14,7 @@ returns-then-parts-eq1-clause-tags c =
 
 pub returns-then-parts-eq1-clause-kept : goal.returns-then-parts-eq1-clause-kept
 returns-then-parts-eq1-clause-kept c =
-    no-kept _ _ 1 c.args.at c.args.kept.now.items
+    no-kept _ _ 1 c.args.kept.now.items
     (drop-past (shares_made c.args.plan.now) 1 (let many = c.parts.ensures.value in let one = c.if-parts-eq1.true in omega arith))
 
 pub hand_on_others-requires-clause-taken : goal.hand_on_others-requires-clause-taken
@@ -48,4 +48,4 @@ returns-clause-kept c =
     let g = group-behind c.args.leader c.args.tags.now c.pop-leader.result c.group-others.result c.pop-leader.new.self c.requires.leads c.group-others.ensures
     c.pop-leader.ensures.lowest in
     c.hand_on_others.ensures.kept
-    ∙ sym (ap (λ (ts : List ℕ). parts_kept (drop 1 ts) (drop 1 (shares_made c.args.plan.now)) 1 c.args.at c.args.kept.now.items) g.1)
+    ∙ sym (ap (λ (ts : List ℕ). parts_kept (drop 1 ts) (drop 1 (shares_made c.args.plan.now)) 1 c.args.kept.now.items) g.1)

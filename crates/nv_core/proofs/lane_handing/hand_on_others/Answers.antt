@@ -32,7 +32,6 @@ loop-part-preserved c =
       low = (let low = so_far.low in omega arith);
       end = so_far.end;
       size = c.keep.ensures.len ∙ so_far.size;
-      at = c.slot_behind-next.ensures.fits;
       rise =
           rising-lower 0 (c.in-Some.tag + 1) c.pop.new.self (omega arith) (left-rise c.loop-part.left c.pop.new.self c.in-Some.tag first so_far.rise);
       taken =
@@ -44,9 +43,8 @@ loop-part-preserved c =
           first parts nothing c.hand_on.ensures
           ∙ so_far.slots_go;
       kept_go =
-          one-kept c.loop-part.left c.pop.new.self _ _ c.loop-part.kept.items c.keep.new.kept.items c.in-Some.tag c.loop-part.part c.loop-part.next
-          c.slot_behind-next.result there.0 c.part_kept.result c.is_nothing-nothing.result
-          first parts nothing c.part_kept.ensures c.keep.ensures.items c.slot_behind-next.ensures.value
+          one-kept c.loop-part.left c.pop.new.self _ _ c.loop-part.kept.items c.keep.new.kept.items c.in-Some.tag c.loop-part.part there.0 c.part_kept.result c.is_nothing-nothing.result
+          first parts nothing c.part_kept.ensures c.keep.ensures.items
           ∙ so_far.kept_go;
     }
 
@@ -60,6 +58,6 @@ returns-clause-tags c =
 pub returns-clause-kept : goal.returns-clause-kept
 returns-clause-kept c =
     let so_far = c.loop-part.invariant in
-    no-kept c.loop-part.left _ c.loop-part.part c.loop-part.next c.loop-part.kept.items
+    no-kept c.loop-part.left _ c.loop-part.part c.loop-part.kept.items
     (drop-past (shares_made c.args.plan.now) c.loop-part.part (let end = so_far.end in let t = c.loop-part-test.false in omega arith))
     ∙ so_far.kept_go

@@ -31,6 +31,6 @@ returns-clause-done g c = λ command reads there.
           ∙ ap (λ (e : List ℕ). tail_behind plan tags p.given.namespace e c.args.tail.now) entry;
       tags_are =
           c.fly.ensures command reads there
-          ∙ ap (λ (e : List ℕ). all_handed tags (shares_of p.given.namespace e plan) c.args.tail.now command c.args.ring.now) entry
-          ∙ going-tags plan tags p.given.namespace command c.args.tail.now c.args.ring.now c.requires.goes;
+          ∙ ap (λ (e : List ℕ). all_handed tags (shares_of p.given.namespace e plan) command c.args.ring.now) entry
+          ∙ going-tags plan tags p.given.namespace command c.args.ring.now c.requires.goes;
     }

@@ -33,15 +33,6 @@ differs true false e = refl
 differs false true e = refl
 differs false false e = cc
 
-pub returns-then-at-len-clause-ok : goal.returns-then-at-len-clause-ok
-returns-then-at-len-clause-ok g c = λ w is live.
-    let m : List ℕ = g.C.MemoryCell.bytes c.args.host.now in
-    let old : State = state_in c.args.layout.now c.args.self.now m w is in
-    let s : State = record { host = m; device = old.device; lanes = c.self.inside.lanes.items; controllers = c.self.inside.controllers.items } in
-    let same : s ≡ old = ap (λ (f : Side). let o : State = record { host = m; device = old.device; lanes = f.lanes; controllers = f.controllers } in o) c.self.view_is in
-    quiet-in c.args.layout.now c.args.self.now m w is (event.Reap c.args.lane) tt _ c.args.self.now m refl
-    (reap-no_lane c.args.layout.now s old c.args.lane same (let n = c.from-at.ensures in let l = c.len.ensures in let t = c.if-at-len.true in omega arith))
-
 pub completion_slot-slot-requires-clause-area : goal.completion_slot-slot-requires-clause-area
 completion_slot-slot-requires-clause-area g c =
     let m : List ℕ = g.C.MemoryCell.bytes c.args.host.now in
@@ -67,31 +58,6 @@ completion_at-completion-requires g c = λ some.
     let slot = c.completion_slot-slot.ensures in
     let low = c.head.ensures.fits in
     omega (arith, area, at, below, begins, slot, low)
-
-pub returns-then-phase-wanted_phase-clause-ok : goal.returns-then-phase-wanted_phase-clause-ok
-returns-then-phase-wanted_phase-clause-ok g c = λ w is0 live.
-    let m : List ℕ = g.C.MemoryCell.bytes c.args.host.now in
-    let side : Side = record { lanes = c.self.inside.lanes.items; tails = c.self.inside.tails.items; controllers = c.self.inside.controllers.items } in
-    let lent : IsLent c.args.layout.now side m = subst (λ (f : Side). IsLent c.args.layout.now f m) (sym c.self.view_is) c.requires in
-    let below : c.from-at.result < length c.self.inside.lanes.items = (let l = c.len.ensures in let n = c.from-at.ensures in let t = c.if-at-len.false in omega arith) in
-    let l : Lane = c.index_mut-ring.result.now in
-    let there : slice_get c.self.inside.lanes.items c.args.lane ≡ Some l =
-    looked-up c.self.inside.lanes.items c.args.lane c.from-at.result l c.from-at.ensures below c.index_mut-ring.ensures.value in
-    let is : IsSideOf side m w = subst (λ (f : Side). IsSideOf f m w) (sym c.self.view_is) is0 in
-    let s : State = state_in c.args.layout.now side m w is in
-    let of : IsOf c.args.layout.now s = of-live c.args.layout.now side m w is lent.laid_out live in
-    let p : ℕ = (lane_of s.device c.args.lane).posted in
-    let phased = phased c.args.layout.now side m w is live c.args.lane c.from-at.result l c.from-at.ensures below c.index_mut-ring.ensures.value in
-    let low = low c.args.layout.now side m w is live c.args.lane c.from-at.result l c.from-at.ensures below c.index_mut-ring.ensures.value in
-    let located : c.completion_slot-slot.result ≡ completion_slot s.device.mediator c.args.lane c.head.result =
-    c.completion_slot-slot.ensures ∙ ap (λ (n : ℕ). completion_slot n c.args.lane c.head.result) c.mediator.ensures in
-    let reads : phase_of c.completion_at-completion.result ≡ phase_at c.args.layout.now (byte_in m) c.args.lane l.head =
-    ap phase_of (c.completion_at-completion.ensures ∙ ap (λ (a : ℕ). bytes_from (byte_in m) a cqe_size) (located ∙ ap (completion_slot c.args.layout.now.mediator c.args.lane) c.head.ensures.value)) in
-    quiet-in c.args.layout.now side m w is (event.Reap c.args.lane) tt _ (let n : Side = record { lanes = set c.self.inside.lanes.items c.from-at.result l; tails = c.self.inside.tails.items; controllers = c.self.inside.controllers.items } in n) m refl
-    (reap-idle c.args.layout.now s s c.args.lane refl of c.from-at.result l c.from-at.ensures below c.index_mut-ring.ensures.value c.head.result p c.head.ensures.value refl
-    (c.head.ensures.value ∙ must-idle c.args.layout.now (byte_in m) c.args.lane l.head l.phase p (lane_of s.device c.args.lane).phase low phased
-    c.phase.result c.wanted_phase.result (phase_of c.completion_at-completion.result) reads c.phase.ensures c.wanted_phase.ensures
-    (unlike c.phase.result c.wanted_phase.result c.if-phase-wanted_phase.true)))
 
 pub returns-then-phase-wanted_phase-clause-same : goal.returns-then-phase-wanted_phase-clause-same
 returns-then-phase-wanted_phase-clause-same g c = λ never.
@@ -157,35 +123,6 @@ end_with-requires g c =
     (sym c.names_command.ensures ∙ c.if-not-names_command.false)) in
     ap point_in f.is
 
-pub returns-clause-ok : goal.returns-clause-ok
-returns-clause-ok g c = λ w is0 live.
-    let m : List ℕ = g.C.MemoryCell.bytes c.args.host.now in
-    let side : Side = record { lanes = c.self.inside.lanes.items; tails = c.self.inside.tails.items; controllers = c.self.inside.controllers.items } in
-    let lent : IsLent c.args.layout.now side m = subst (λ (f : Side). IsLent c.args.layout.now f m) (sym c.self.view_is) c.requires in
-    let below : c.from-at.result < length c.self.inside.lanes.items = (let l = c.len.ensures in let n = c.from-at.ensures in let t = c.if-at-len.false in omega arith) in
-    let l : Lane = c.index_mut-ring.result.now in
-    let there : slice_get c.self.inside.lanes.items c.args.lane ≡ Some l =
-    looked-up c.self.inside.lanes.items c.args.lane c.from-at.result l c.from-at.ensures below c.index_mut-ring.ensures.value in
-    let is : IsSideOf side m w = subst (λ (f : Side). IsSideOf f m w) (sym c.self.view_is) is0 in
-    let s : State = state_in c.args.layout.now side m w is in
-    let of : IsOf c.args.layout.now s = of-live c.args.layout.now side m w is lent.laid_out live in
-    let p : ℕ = (lane_of s.device c.args.lane).posted in
-    let phased = phased c.args.layout.now side m w is live c.args.lane c.from-at.result l c.from-at.ensures below c.index_mut-ring.ensures.value in
-    let low = low c.args.layout.now side m w is live c.args.lane c.from-at.result l c.from-at.ensures below c.index_mut-ring.ensures.value in
-    let located : c.completion_slot-slot.result ≡ completion_slot s.device.mediator c.args.lane c.head.result =
-    c.completion_slot-slot.ensures ∙ ap (λ (n : ℕ). completion_slot n c.args.lane c.head.result) c.mediator.ensures in
-    let reads : phase_of c.completion_at-completion.result ≡ phase_at c.args.layout.now (byte_in m) c.args.lane l.head =
-    ap phase_of (c.completion_at-completion.ensures ∙ ap (λ (a : ℕ). bytes_from (byte_in m) a cqe_size) (located ∙ ap (completion_slot c.args.layout.now.mediator c.args.lane) c.head.ensures.value)) in
-    let waits : c.head.result ≡ p → ⊥ =
-    (λ e. must-wait c.args.layout.now (byte_in m) c.args.lane l.head l.phase p (lane_of s.device c.args.lane).phase low phased c.phase.result c.wanted_phase.result
-    (phase_of c.completion_at-completion.result) reads c.phase.ensures c.wanted_phase.ensures
-    (alike c.phase.result c.wanted_phase.result c.if-phase-wanted_phase.false) (sym c.head.ensures.value ∙ e)) in
-    quiet-in c.args.layout.now side m w is (event.Reap c.args.lane) tt _ (let n : Side = record { lanes = set c.self.inside.lanes.items c.from-at.result c.read_completion.new.self; tails = c.self.inside.tails.items; controllers = c.self.inside.controllers.items } in n) m refl
-    (reap-done c.args.layout.now s s c.args.lane refl of c.from-at.result l c.from-at.ensures below
-    c.index_mut-ring.ensures.value c.head.result p c.head.ensures.value refl waits
-    c.completion_slot-slot.result c.cid-identifier.result c.completion_at-completion.result located c.completion_at-completion.ensures c.cid-identifier.ensures
-    c.status.result c.passed_on.result c.end_with.new.self c.read_completion.new.self c.status.ensures c.passed_on.ensures c.end_with.ensures c.read_completion.ensures)
-
 pub returns-clause-ended : goal.returns-clause-ended
 returns-clause-ended g c = λ done w k is0 found.
     let m : List ℕ = g.C.MemoryCell.bytes c.args.host.now in
@@ -207,14 +144,14 @@ returns-clause-ended g c = λ done w k is0 found.
     c.status.result c.passed_on.result there f.is c.status.ensures c.passed_on.ensures c.end_with.ensures c.read_completion.ensures c.cid-identifier.ensures
     (c.completion_at-completion.ensures ∙ ap (λ (a : ℕ). bytes_from (byte_in m) a cqe_size) at_head))
 
-pub returns-then-at-len-clause-beside : goal.returns-then-at-len-clause-beside
-returns-then-at-len-clause-beside g c = λ w on live.
+pub returns-then-at-len-clause-ok : goal.returns-then-at-len-clause-ok
+returns-then-at-len-clause-ok g c = λ w on live.
     let m : List ℕ = g.C.MemoryCell.bytes c.args.host.now in
     let past : length c.self.inside.lanes.items ≤ c.args.lane = (let n = c.from-at.ensures in let l = c.len.ensures in let t = c.if-at-len.true in omega arith) in
     beside-none c.args.layout.now c.args.self.now m w on live c.requires.laid_out c.args.lane (subst (λ (f : Side). length f.lanes ≤ c.args.lane) c.self.view_is past)
 
-pub returns-then-phase-wanted_phase-clause-beside : goal.returns-then-phase-wanted_phase-clause-beside
-returns-then-phase-wanted_phase-clause-beside g c = λ w on0 live.
+pub returns-then-phase-wanted_phase-clause-ok : goal.returns-then-phase-wanted_phase-clause-ok
+returns-then-phase-wanted_phase-clause-ok g c = λ w on0 live.
     let m : List ℕ = g.C.MemoryCell.bytes c.args.host.now in
     let side : Side = record { lanes = c.self.inside.lanes.items; tails = c.self.inside.tails.items; controllers = c.self.inside.controllers.items } in
     let lent : IsLent c.args.layout.now side m = subst (λ (f : Side). IsLent c.args.layout.now f m) (sym c.self.view_is) c.requires in
@@ -227,8 +164,8 @@ returns-then-phase-wanted_phase-clause-beside g c = λ w on0 live.
     c.completion_at-completion.ensures c.phase.result c.wanted_phase.result c.phase.ensures c.wanted_phase.ensures
     (unlike c.phase.result c.wanted_phase.result c.if-phase-wanted_phase.true)
 
-pub returns-clause-beside : goal.returns-clause-beside
-returns-clause-beside g c = λ w on0 live.
+pub returns-clause-ok : goal.returns-clause-ok
+returns-clause-ok g c = λ w on0 live.
     let m : List ℕ = g.C.MemoryCell.bytes c.args.host.now in
     let side : Side = record { lanes = c.self.inside.lanes.items; tails = c.self.inside.tails.items; controllers = c.self.inside.controllers.items } in
     let lent : IsLent c.args.layout.now side m = subst (λ (f : Side). IsLent c.args.layout.now f m) (sym c.self.view_is) c.requires in

@@ -21,16 +21,6 @@ use Rattle.nv_model.specs.declared.reply.Reply.TheVariants as reply
 use Rattle.nv_world_model.specs.declared.event.Event.TheVariants as event
 use Rattle.nv_core.proofs.front.Front.reap_due.Goals as goal
 
-pub returns-then-at-len-clause-due : goal.returns-then-at-len-clause-due
-returns-then-at-len-clause-due g c = λ w is live.
-    let m : List ℕ = g.C.MemoryCell.bytes c.args.host.now in
-    let old : State = state_in c.args.layout.now c.args.self.now m w is in
-    let s : State = record { host = m; device = old.device; lanes = c.self.inside.lanes.items; controllers = c.self.inside.controllers.items } in
-    let same : s ≡ old = ap (λ (f : Side). let o : State = record { host = m; device = old.device; lanes = f.lanes; controllers = f.controllers } in o) c.self.view_is in
-    sym (due-told c.args.layout.now (event.Reap c.args.lane) old old reply.Ignored
-    (reap-no_lane c.args.layout.now s old c.args.lane same (let n = c.from-at.ensures in let l = c.len.ensures in let t = c.if-at-len.true in omega arith)))
-    ∙ due-side c.args.layout.now c.args.self.now m w is (event.Reap c.args.lane) tt
-
 pub completion_slot-slot-requires-clause-area : goal.completion_slot-slot-requires-clause-area
 completion_slot-slot-requires-clause-area g c =
     let m : List ℕ = g.C.MemoryCell.bytes c.args.host.now in
@@ -55,28 +45,6 @@ completion_at-requires g c = λ some.
     let slot = c.completion_slot-slot.ensures in
     let low = c.head.ensures.fits in
     omega (arith, area, at, below, begins, slot, low)
-
-pub returns-clause-due : goal.returns-clause-due
-returns-clause-due g c = λ w is0 live.
-    let m : List ℕ = g.C.MemoryCell.bytes c.args.host.now in
-    let side : Side = record { lanes = c.self.inside.lanes.items; tails = c.self.inside.tails.items; controllers = c.self.inside.controllers.items } in
-    let lent : IsLent c.args.layout.now side m = subst (λ (f : Side). IsLent c.args.layout.now f m) (sym c.self.view_is) c.requires in
-    let is : IsSideOf side m w = subst (λ (f : Side). IsSideOf f m w) (sym c.self.view_is) is0 in
-    let s : State = state_in c.args.layout.now side m w is in
-    let of : IsKeptOf c.args.layout.now s = of-side c.args.layout.now side m w is lent in
-    let below : c.from-at.result < length c.self.inside.lanes.items = (let l = c.len.ensures in let n = c.from-at.ensures in let t = c.if-at-len.false in omega arith) in
-    let l : Lane = c.index-ring.result.now in
-    let p : ℕ = (lane_of s.device c.args.lane).posted in
-    let phased = phased c.args.layout.now side m w is live c.args.lane c.from-at.result l c.from-at.ensures below c.index-ring.ensures in
-    let low = low c.args.layout.now side m w is live c.args.lane c.from-at.result l c.from-at.ensures below c.index-ring.ensures in
-    let located : c.completion_slot-slot.result ≡ completion_slot s.device.mediator c.args.lane c.head.result =
-    c.completion_slot-slot.ensures ∙ ap (λ (n : ℕ). completion_slot n c.args.lane c.head.result) c.mediator.ensures in
-    let reads : phase_of c.completion_at.result ≡ phase_at c.args.layout.now (byte_in m) c.args.lane l.head =
-    ap phase_of (c.completion_at.ensures ∙ ap (λ (a : ℕ). bytes_from (byte_in m) a cqe_size) (located ∙ ap (completion_slot c.args.layout.now.mediator c.args.lane) c.head.ensures.value)) in
-    shows c.args.layout.now (byte_in m) c.args.lane l.head l.phase p (lane_of s.device c.args.lane).phase low phased c.phase.result c.wanted_phase.result
-    (phase_of c.completion_at.result) reads c.phase.ensures c.wanted_phase.ensures
-    ∙ sym (reap-due c.args.layout.now s of c.args.lane c.from-at.result l c.from-at.ensures below c.index-ring.ensures)
-    ∙ due-side c.args.layout.now side m w is (event.Reap c.args.lane) tt
 
 pub returns-clause-answer : goal.returns-clause-answer
 returns-clause-answer g c =

@@ -4,7 +4,7 @@ use Rattle.nv_core.proofs.GroupWorlds.{taken-below, taken-there}
 use Rattle.nv_core.proofs.Handed.{lane-there}
 use Rattle.nv_core.proofs.PlanSubmits.{come-of, guest-of, tag-of}
 use Rattle.nv_core.proofs.KeptStates.{IsKeptOf, tail-of}
-use Rattle.nv_core.proofs.Sides.{of-side, own-side, own-world, rung-in, state_in, tail-stays, tail-there}
+use Rattle.nv_core.proofs.Sides.{in-each, of-side, own-side, own-world, rung-in, state_in, tail-stays, tail-there}
 use Rattle.nv_core.proofs.SubmitJobs.{one-taken}
 use Rattle.nv_core.proofs.Submits.{have-room, on-device, submit-done}
 use Rattle.nv_core.proofs.Waits.{waits}
@@ -139,8 +139,10 @@ pub returns-clause-some : goal.returns-clause-some
 returns-clause-some g c =
     let p = c.args.plan in (
       c.is_current.ensures.0 c.if-not-is_current.false,
-      λ w is.
-          let m : List ℕ = g.C.MemoryCell.bytes c.args.host.now in
+      (let m : List ℕ = g.C.MemoryCell.bytes c.args.host.now in
+          in-each c.args.layout.now (event.Submit p.job.lane p.job.tag) c.args.self.now
+          (record { lanes = set c.self.inside.lanes.items c.from-at.result c.carry_out.new.ring; tails = set c.self.inside.tails.items c.from-at.result c.carry_out.new.tail; controllers = c.self.inside.controllers.items })
+          m (g.C.MemoryCell.bytes c.carry_out.new.host) reply.Done tt (λ w is.
           let old : State = state_in c.args.layout.now c.args.self.now m w is in
           let s : State = record { host = m; device = old.device; lanes = c.self.inside.lanes.items; controllers = c.self.inside.controllers.items } in
           let same : s ≡ old = ap (λ (f : Side). let o : State = record { host = m; device = old.device; lanes = f.lanes; controllers = f.controllers } in o) c.self.view_is in
@@ -166,7 +168,7 @@ returns-clause-some g c =
           (ap (λ (n : ℕ). set c.self.inside.tails.items n c.carry_out.new.tail) on ∙ ap (λ (f : Side). set f.tails p.job.lane c.carry_out.new.tail) c.self.view_is)
           (submit-done c.args.layout.now s p.job.lane p.job.tag t.taken p.given of (guest-of c.args.layout.now s old p same current) old
           c.from-at.result c.index_mut-ring.result.now c.carry_out.new.ring (g.C.MemoryCell.bytes c.carry_out.new.host) c.index_mut-tail.result.now c.carry_out.new.tail _ reply.Done c.mediator.result
-          same on c.index_mut-ring.ensures.value c.mediator.ensures c.carry_out.ensures.len at refl
+          same on c.index_mut-ring.ensures.value c.mediator.ensures at refl
           (subst (λ (o : Outcome Plan). IsSubmitted o p.given c.mediator.result p.job.lane (group_in (Some c.index_mut-ring.result.now) p.job.tag) t.taken.command reply.Done
           (byte_in m) (byte_in (g.C.MemoryCell.bytes c.carry_out.new.host)) c.index_mut-tail.result.now c.carry_out.new.tail c.index_mut-ring.result.now c.carry_out.new.ring)
           (sym (come-of c.args.layout.now s old p same current c.job-job.ensures.is_plan)) (
@@ -174,7 +176,7 @@ returns-clause-some g c =
             subst (λ (j : Job). IsCarriedOut (plan_made p) p.given c.mediator.result j.lane (group_in (Some c.index_mut-ring.result.now) j.tag) t.taken.command
                 (byte_in m) (byte_in (g.C.MemoryCell.bytes c.carry_out.new.host)) c.index_mut-tail.result.now c.carry_out.new.tail c.index_mut-ring.result.now c.carry_out.new.ring)
                 c.job-job.ensures.value out,
-          ))),
+          ))))),
     )
 
 pub returns-clause-tails : goal.returns-clause-tails

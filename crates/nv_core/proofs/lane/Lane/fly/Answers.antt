@@ -28,7 +28,7 @@ pub hand_on-requires : goal.hand_on-requires
 hand_on-requires c =
     let i = c.self.inside in
     first-state i.head i.phase i.tags i.progress.items c.args.self.now c.self.invariant c.self.view_is c.args.tag c.requires.led c.requires.together
-    c.args.plan c.args.at c.requires.some c.is_nothing-nothing.result c.is_nothing-nothing.ensures c.slot_behind-next.result c.slot_behind-next.ensures.value
+    c.args.plan c.requires.some c.is_nothing-nothing.result c.is_nothing-nothing.ensures
     c.hand_on_further.new.tags c.hand_on_further.ensures.tags c.hand_on_further.new.kept.items c.hand_on_further.ensures.kept
 
 pub index_mut-requires : goal.index_mut-requires
@@ -43,7 +43,7 @@ pub invariant_of-self : goal.invariant_of-self
 invariant_of-self c =
     let i = c.self.inside in
     flown-whole i.head i.phase i.tags i.progress.items c.args.self.now c.self.invariant c.self.view_is c.args.tag c.requires.led c.requires.together
-    c.args.plan c.args.at c.requires.some c.is_nothing-nothing.result c.is_nothing-nothing.ensures c.slot_behind-next.result c.slot_behind-next.ensures.value
+    c.args.plan c.requires.some c.is_nothing-nothing.result c.is_nothing-nothing.ensures
     c.hand_on_further.new.tags c.hand_on_further.ensures.tags c.hand_on_further.new.kept.items c.hand_on_further.ensures.kept
     c.hand_on.new.tags c.from.result c.first_kept.result c.hand_on.ensures c.from.ensures c.first_kept.ensures
 
@@ -53,6 +53,6 @@ returns c = λ command reads there.
     let t : IsTaken c.args.tag (slice_get c.args.self.now.tags c.args.tag) =
     record { command = command; reads = reads; is = there; led = its-led c.args.tag _ command reads c.requires.led there } in
     flown-changed i.head i.phase i.tags i.progress.items c.args.self.now c.self.invariant c.self.view_is c.args.tag t c.requires.together
-    c.args.plan c.args.at c.requires.some c.is_nothing-nothing.result c.is_nothing-nothing.ensures c.slot_behind-next.result c.slot_behind-next.ensures.value
+    c.args.plan c.requires.some c.is_nothing-nothing.result c.is_nothing-nothing.ensures
     c.hand_on_further.new.tags c.hand_on_further.ensures.tags c.hand_on_further.new.kept.items c.hand_on_further.ensures.kept
     c.hand_on.new.tags c.from.result c.first_kept.result c.hand_on.ensures c.from.ensures c.first_kept.ensures

@@ -9,4 +9,4 @@ admin-requires c =
 pub returns : goal.returns
 returns c =
     lent-step c.args.layout.now c.from_mut-host.result.now c.self.inside.host c.from_mut-host.ensures.value c.self.inside.device c.self.inside.front c.args.self.now c.self.view_is c.requires c.self.invariant c.admin.new.host c.admin.ensures.len
-    (event.Admin c.args.guest) c.admin.result c.admin.new.self c.admin.ensures.step c.admin.ensures.tails
+    (event.Admin c.args.guest) tt c.admin.result c.admin.new.self c.admin.ensures.step c.admin.ensures.tails

@@ -2,7 +2,7 @@ use Rattle.std.proofs.Common.{◌≡◌, false, ◌∙◌, length, sym, subst}
 use Rattle.nv_core.proofs.DevicePosts.{post-no_slot}
 use Rattle.nv_core.proofs.DeviceSteps.{both-below}
 use Rattle.nv_core.proofs.Dues.{dev_post-due, due-told}
-use Rattle.nv_core.specs.State.{IsOf, State, world_of}
+use Rattle.nv_core.specs.State.{IsOf, State, state_of, world_of}
 use Rattle.nv_model.specs.declared.reply.Reply.TheVariants as reply
 use Rattle.nv_world_model.specs.Area.{tag_count}
 use Rattle.nv_world_model.specs.Due.{due}
@@ -11,7 +11,7 @@ use Rattle.nv_core.proofs.state.Core.dev_post_due.Goals as goal
 
 pub returns-then-not-has_slot : goal.returns-then-not-has_slot
 returns-then-not-has_slot c =
-    let s : State = record { host = c.self.inside.host; device = c.self.inside.device; lanes = c.self.inside.front.lanes; controllers = c.self.inside.front.controllers } in
+    let s : State = state_of c.self.inside.host c.self.inside.device c.self.inside.front in
     let is = subst (IsOf c.args._layout.now) (sym c.self.view_is) c.requires in
     let e = event.DevPost c.args.lane c.args.slot in
     subst (λ (x : State). false ≡ due c.args._layout.now e (world_of x)) c.self.view_is
@@ -19,7 +19,7 @@ returns-then-not-has_slot c =
 
 pub returns : goal.returns
 returns c =
-    let s : State = record { host = c.self.inside.host; device = c.self.inside.device; lanes = c.self.inside.front.lanes; controllers = c.self.inside.front.controllers } in
+    let s : State = state_of c.self.inside.host c.self.inside.device c.self.inside.front in
     let is = subst (IsOf c.args._layout.now) (sym c.self.view_is) c.requires in
     let there = both-below c.args.lane (length c.self.inside.device.lanes) c.args.slot tag_count c.has_slot.result c.has_slot.ensures c.if-not-has_slot.false in
     subst (λ (x : State). c.has_ended.result ≡ due c.args._layout.now (event.DevPost c.args.lane c.args.slot) (world_of x)) c.self.view_is

@@ -1,7 +1,7 @@
 use Rattle.std.proofs.Common.{◌≡◌, ◌<◌, ◌≤◌, ◌∙◌, length, sym, subst, arith}
 use Rattle.nv_core.proofs.DeviceTakes.{take-no_device}
 use Rattle.nv_core.proofs.Dues.{dev_take-due, due-told}
-use Rattle.nv_core.specs.State.{IsOf, State, world_of}
+use Rattle.nv_core.specs.State.{IsOf, State, state_of, world_of}
 use Rattle.nv_model.specs.declared.reply.Reply.TheVariants as reply
 use Rattle.nv_world_model.specs.Due.{due}
 use Rattle.nv_world_model.specs.declared.event.Event.TheVariants as event
@@ -16,7 +16,7 @@ returns-then-lane-lanes c =
 
 pub returns : goal.returns
 returns c =
-    let s : State = record { host = c.self.inside.host; device = c.self.inside.device; lanes = c.self.inside.front.lanes; controllers = c.self.inside.front.controllers } in
+    let s : State = state_of c.self.inside.host c.self.inside.device c.self.inside.front in
     let is = subst (IsOf c.args._layout.now) (sym c.self.view_is) c.requires in
     let below : c.args.lane < length s.device.lanes = (let many = c.lanes.ensures.value in let t = c.if-lane-lanes.false in omega arith) in
     subst (λ (x : State). c.waits.result ≡ due c.args._layout.now (event.DevTake c.args.lane) (world_of x)) c.self.view_is

@@ -10,4 +10,4 @@ give_up-requires c =
 pub returns : goal.returns
 returns c =
     quiet-step c.args._layout.now c.self.inside.host c.self.inside.device c.self.inside.front c.args.self.now c.self.view_is c.requires c.self.invariant
-    (event.GiveUp c.args.lane c.args.tag) c.give_up.result c.give_up.new.self c.self.inside.host (c.give_up.ensures.step c.self.inside.host) c.give_up.ensures.tails refl
+    (event.GiveUp c.args.lane c.args.tag) tt c.give_up.result c.give_up.new.self c.self.inside.host (c.give_up.ensures.step c.self.inside.host) c.give_up.ensures.tails refl

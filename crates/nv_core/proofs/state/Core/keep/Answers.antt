@@ -1,6 +1,6 @@
 use Rattle.std.proofs.Common.{◌≤◌, ◌<◌, subst, sym, arith}
 use Rattle.nv_core.proofs.Placed.{keep-marks, keep-not, same-size}
-use Rattle.nv_core.specs.State.{State, IsStep, world_of}
+use Rattle.nv_core.specs.State.{State, IsStep, state_of, world_of}
 use Rattle.nv_device.specs.State.{Physical}
 use Rattle.nv_model.specs.declared.reply.Reply.TheVariants as reply
 use Rattle.nv_world_model.specs.declared.event.Event.TheVariants as event
@@ -14,6 +14,7 @@ returns-then-block-disk_blocks c =
 pub returns : goal.returns
 returns c =
     let below : c.args.block < c.args.layout.now.disk_blocks = (let e = c.disk_blocks.ensures in let p = c.if-block-disk_blocks.false in omega arith) in
-    let s : State = record { host = c.self.inside.host; device = c.self.inside.device; lanes = c.self.inside.front.lanes; controllers = c.self.inside.front.controllers } in
-    subst (λ (d : Physical). IsStep c.args.layout.now (event.Keep c.args.block) c.args.self.now reply.Done (record s { device = d })) (sym c.keep.ensures.state)
+    let s : State = state_of c.self.inside.host c.self.inside.device c.self.inside.front in
+    subst (λ (d : Physical). IsStep c.args.layout.now (event.Keep c.args.block) c.args.self.now reply.Done (state_of c.self.inside.host d c.self.inside.front))
+    (sym c.keep.ensures.state)
     (keep-marks c.args.layout.now s c.args.self.now c.args.block c.self.view_is c.requires c.blocks-known.ensures.marked below)

@@ -14,5 +14,5 @@ returns c =
     loaded-so _ _
     (λ r made. subst (λ (o : State). IsStep c.args.layout.now (event.Guest c.args.guest (act.Load c.args.addr (length c.args.room.now))) c.args.self.now r o) c.self.view_is
     (shown-step c.args.layout.now c.from_ref.result.now c.self.inside.host c.from_ref.ensures.value c.self.inside.device c.self.inside.front c.args.self.now c.self.view_is c.requires c.self.invariant
-    (event.Guest c.args.guest (act.Load c.args.addr (length c.args.room.now))) r c.self.inside.front made refl))
+    (event.Guest c.args.guest (act.Load c.args.addr (length c.args.room.now))) tt r c.self.inside.front made refl))
     c.load.result c.args.room.now c.load.new.room c.load.ensures

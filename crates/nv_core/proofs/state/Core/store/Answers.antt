@@ -11,4 +11,4 @@ store-requires c =
 pub returns : goal.returns
 returns c =
     lent-step c.args.layout.now c.from_mut-host.result.now c.self.inside.host c.from_mut-host.ensures.value c.self.inside.device c.self.inside.front c.args.self.now c.self.view_is c.requires c.self.invariant c.store.new.host c.store.ensures.len
-    (event.Guest c.args.guest (act.Store c.args.addr c.args.bytes.now)) c.store.result c.self.inside.front c.store.ensures.step refl
+    (event.Guest c.args.guest (act.Store c.args.addr c.args.bytes.now)) tt c.store.result c.self.inside.front c.store.ensures.step refl

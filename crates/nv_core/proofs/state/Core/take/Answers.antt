@@ -9,4 +9,4 @@ take-requires-clause-lent c =
 pub returns : goal.returns
 returns c =
     shown-step c.args.layout.now c.from_ref-host.result.now c.self.inside.host c.from_ref-host.ensures.value c.self.inside.device c.self.inside.front c.args.self.now c.self.view_is c.requires.of c.self.invariant
-    (event.Take c.args.guest c.args.queue c.args.lane) c.take.result c.take.new.self c.take.ensures.step c.take.ensures.tails
+    (event.Take c.args.guest c.args.queue c.args.lane) tt c.take.result c.take.new.self c.take.ensures.step c.take.ensures.tails

@@ -19,7 +19,7 @@ invariant_of-self g c =
     let after : List ℕ = g.C.MemoryCell.bytes c.submit_plan.new.host in
     plan-served h c.args.self.now c.self.view_is c.self.invariant (event.Submit c.args.plan.job.lane c.args.plan.job.tag) tt c.submit_plan.new.self before after
     (IsCurrentIn c.self.inside.layout c.self.inside.front.lanes c.args.plan)
-    ((after ≡ before) × (IsCurrentIn c.self.inside.layout c.self.inside.front.lanes c.args.plan → ⊥)) (many-moved c.args.plan.job.lane h.side c.submit_plan.new.self c.submit_plan.ensures.tails) c.submit_plan.ensures.len c.submit_plan.result c.submit_plan.ensures.some c.submit_plan.ensures.none c.requires
+    ((after ≡ before) × (IsCurrentIn c.self.inside.layout c.self.inside.front.lanes c.args.plan → ⊥)) (many-moved c.args.plan.job.lane h.side c.submit_plan.new.self c.submit_plan.ensures.tails) c.submit_plan.ensures.len c.submit_plan.result c.submit_plan.ensures.some c.submit_plan.ensures.done c.submit_plan.ensures.none c.requires
 
 pub returns-clause-some : goal.returns-clause-some
 returns-clause-some g c =
@@ -30,7 +30,7 @@ returns-clause-some g c =
     × IsDone (event.Submit c.args.plan.job.lane c.args.plan.job.tag) c.args.self.now before r (serving h c.submit_plan.new.self) after)) c.self.view_is
     (plan-done h c.args.self.now c.self.view_is c.self.invariant (event.Submit c.args.plan.job.lane c.args.plan.job.tag) tt c.submit_plan.new.self before after
     (IsCurrentIn c.self.inside.layout c.self.inside.front.lanes c.args.plan)
-    ((after ≡ before) × (IsCurrentIn c.self.inside.layout c.self.inside.front.lanes c.args.plan → ⊥)) (many-moved c.args.plan.job.lane h.side c.submit_plan.new.self c.submit_plan.ensures.tails) c.submit_plan.ensures.len c.submit_plan.result c.submit_plan.ensures.some)
+    ((after ≡ before) × (IsCurrentIn c.self.inside.layout c.self.inside.front.lanes c.args.plan → ⊥)) (many-moved c.args.plan.job.lane h.side c.submit_plan.new.self c.submit_plan.ensures.tails) c.submit_plan.ensures.len c.submit_plan.result c.submit_plan.ensures.some c.submit_plan.ensures.done)
 
 pub returns-clause-setup : goal.returns-clause-setup
 returns-clause-setup g c = ap (λ (x : Served). x.setup) c.self.view_is
