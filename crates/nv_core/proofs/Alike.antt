@@ -1,5 +1,5 @@
 -- Lanes that are the same but for the places of parts: what is kept of them, told of their tags, and counted of them is the same.
-use Rattle.std.proofs.Common.{◌≡◌, ℕ, ◌<◌, ◌/◌, ◌%◌, Bool, ◌&&◌, List, [], ◌∷◌, length, map, slice_get, Option, Some, None, refl, sym, ap, ◌∙◌, subst}
+use Rattle.std.proofs.Common.{◌≡◌, ℕ, ◌/◌, ◌%◌, Bool, ◌&&◌, List, [], ◌∷◌, length, map, slice_get, Option, Some, None, refl, sym, ap, ◌∙◌, subst}
 use Rattle.std.specs.Option.{option_map}
 use Rattle.std.proofs.lemmas.List.{length-map}
 use Rattle.std.proofs.lemmas.Option.{slice_get-map}
@@ -18,7 +18,6 @@ use Rattle.nv_laws_sound.specs.Unplaced.{after_unplaced, unplaced, unplaced_lane
 use Rattle.nv_model.specs.Controller.{Controller}
 use Rattle.nv_model.specs.Running.{IsConsistent as IsRunningWith}
 use Rattle.nv_plan.specs.Made.{MadePlan}
-use Rattle.nv_plan.specs.declared.job.Job.{Job}
 use Rattle.nv_world_model.specs.Area.{tag_count}
 use Rattle.nv_world_model.specs.Due.{due, is_due_kind}
 use Rattle.nv_world_model.specs.Geometry.{Geometry}

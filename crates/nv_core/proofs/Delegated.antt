@@ -16,7 +16,7 @@ use Rattle.nv_core.proofs.LentHost.{after-lent}
 use Rattle.nv_core.proofs.PlacesFollow.{lanes-unplaced, places-found}
 use Rattle.nv_core.proofs.Sides.{in-each, rung-one, rung-same, set-nowhere}
 use Rattle.nv_core.proofs.KeptStates.{kept-of, length-tails, tail-of}
-use Rattle.nv_core.specs.Front.{ComesTo, HasTailMoved, IsBeside, IsLive, IsLiveStep, IsSideOf, IsSideStep, IsStepInEach, Side, rung_with, tails_of, with_side}
+use Rattle.nv_core.specs.Front.{ComesTo, HasTailMoved, IsBeside, IsLive, IsLiveStep, IsSideOf, IsSideStep, IsStepInEach, Side, rung_with, tails_of}
 use Rattle.nv_core.specs.Jobs.{holder_in, holder_of, job_in, job_of}
 use Rattle.nv_core.specs.Kept.{AreKept, IsKept, IsLent}
 use Rattle.nv_core.specs.Seat.{IsLoaded}

@@ -1,10 +1,8 @@
 -- Completions that the physical controller posts, from the device to the world.
-use Rattle.std.proofs.Common.{◌≡◌, ℕ, ◌<◌, Bool, true, false, cond, ◌&&◌, ◌==◌, eq-eqb, eqb-true, nat_lt, List, [], ◌∷◌, get_or, length, set, slice_get, Option}
+use Rattle.std.proofs.Common.{◌≡◌, ℕ, ◌<◌, Bool, true, false, cond, ◌&&◌, ◌==◌, eq-eqb, eqb-true, nat_lt, List, [], ◌∷◌, length, set, slice_get, Option}
 use Rattle.std.proofs.Common.{Some, None, is_some, refl, sym, ap, ◌∙◌, subst}
 use Rattle.std.specs.Prelude.{◌↔◌, IfSome, IsTrue}
-use Rattle.std.proofs.lemmas.Option.{get_or_from_slice_get}
 use Rattle.nv_core.specs.State.{IsOf, IsSameSize, IsStep, State, world_of}
-use Rattle.nv_core.specs.Tags.{state_in}
 use Rattle.nv_core.proofs.DeviceNeeds.{IsHoldingAt, holding-at}
 use Rattle.nv_core.proofs.DeviceSteps.{after, held_event, no-slot, none-held, same-world, some-held, stays}
 use Rattle.nv_core.proofs.Placed.{same-size}
@@ -18,13 +16,11 @@ use Rattle.nv_model.proofs.Endings.{and-true}
 use Rattle.nv_model.specs.declared.reply.Reply.TheVariants as reply
 use Rattle.nv_disk.specs.Flat.{byte_of_block}
 use Rattle.nv_disk.specs.Marks.{mark_of}
-use Rattle.nv_tags.specs.declared.state.TagState.TheVariants as state
 use Rattle.nv_world_model.specs.Area.{tag_count}
 use Rattle.nv_world_model.specs.Device.{DeviceLane, Held, completion_posted, completion_written, held_status}
 use Rattle.nv_world_model.specs.Geometry.{Geometry}
-use Rattle.nv_world_model.specs.Share.{Share}
 use Rattle.nv_world_model.specs.Step.{After, device_fail, device_post, device_posted, is_success, replied, step}
-use Rattle.nv_world_model.specs.World.{Answered, Command, Flying, InDevice, Lane, Standing, Tag, World, tag_changed}
+use Rattle.nv_world_model.specs.World.{Answered, Flying, InDevice, Lane, Tag, World, tag_changed}
 use Rattle.nv_world_model.specs.declared.event.Event.TheVariants as event
 use Rattle.nv_laws_sound.proofs.Retags.{stands-is}
 

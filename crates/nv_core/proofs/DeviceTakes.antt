@@ -1,8 +1,7 @@
 -- A DevTake, from the device to the world.
-use Rattle.std.proofs.Common.{◌≡◌, ℕ, ◌<◌, ◌≤◌, Bool, true, false, cond, not, List, get_or, length, set, slice_get, Option, Some, None, refl, sym, ap, ◌∙◌}
+use Rattle.std.proofs.Common.{◌≡◌, ℕ, ◌<◌, ◌≤◌, Bool, true, false, cond, not, List, length, set, Option, Some, refl, sym, ap, ◌∙◌}
 use Rattle.std.proofs.lemmas.Option.{slice_get_past}
 use Rattle.nv_core.specs.State.{IsOf, IsStep, State, world_of}
-use Rattle.nv_core.specs.Tags.{state_in}
 use Rattle.nv_core.proofs.DeviceNeeds.{HasSides, IsNext, has-sides}
 use Rattle.nv_core.proofs.DeviceSteps.{after, same-world}
 use Rattle.nv_core.proofs.Placed.{same-size}
@@ -15,16 +14,14 @@ use Rattle.nv_model.specs.Queue.{is_empty, next_slot}
 use Rattle.nv_model.specs.declared.reply.Reply.TheVariants as reply
 use Rattle.nv_disk.specs.Flat.{byte_of_block}
 use Rattle.nv_disk.specs.Marks.{mark_of}
-use Rattle.nv_tags.specs.declared.state.TagState.TheVariants as state
 use Rattle.nv_world_model.specs.Area.{ring_size}
 use Rattle.nv_world_model.specs.Device.{DeviceLane, entry_taken, front_entry, held_of}
 use Rattle.nv_world_model.specs.Geometry.{Geometry}
 use Rattle.nv_world_model.specs.ShareArea.{share_entry}
 use Rattle.nv_world_model.specs.Step.{After, device_take, device_took, for_one, replied, step}
-use Rattle.nv_world_model.specs.World.{Flying, InDevice, Lane, Queued, Tag, World, tag_changed}
+use Rattle.nv_world_model.specs.World.{Flying, InDevice, Lane, World, tag_changed}
 use Rattle.nv_world_model.specs.declared.event.Event.TheVariants as event
 use Rattle.nv_laws_sound.proofs.EntryFields.{entry-cid}
-use Rattle.nv_laws_sound.proofs.Lists.{some-same}
 use Rattle.nv_laws_sound.proofs.TakenEvents.{took-world}
 
 module _ (geometry : Geometry) (s : State) (is : IsOf geometry s) (lane : ℕ) where

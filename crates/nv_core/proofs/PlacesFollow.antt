@@ -1,5 +1,5 @@
 -- The place of a part follows from what the physical controller holds and from the rings: in a consistent world there is one.
-use Rattle.std.proofs.Common.{◌≡◌, ℕ, zero, suc, ◌+◌, ◌<◌, Bool, true, false, ◌&&◌, ◌==◌, nat_lt, cond, eq-eqb, eqb-true, arith, List, [], ◌∷◌, get_or, length, map, slice_get}
+use Rattle.std.proofs.Common.{◌≡◌, ℕ, zero, suc, ◌+◌, ◌<◌, Bool, true, false, ◌&&◌, ◌==◌, cond, eq-eqb, eqb-true, arith, List, [], ◌∷◌, get_or, length, map, slice_get}
 use Rattle.std.proofs.Common.{Option, Some, None, refl, sym, ap, ◌∙◌, subst}
 use Rattle.std.proofs.lemmas.Bool.{lt-ltb}
 use Rattle.std.proofs.lemmas.Bool.Decides.{nat_tests}
@@ -11,7 +11,7 @@ use Rattle.nv_laws_sound.proofs.EntryFields.{entry-cid}
 use Rattle.nv_laws_sound.proofs.Lists.{slice_get-below, slice_get-there, some-same}
 use Rattle.nv_laws_sound.proofs.ReapEvents.{answered-at}
 use Rattle.nv_laws_sound.proofs.TakenEvents.{queued-at}
-use Rattle.nv_laws_sound.specs.Consistent.{IsBetween, IsConsistent, IsFlying, IsLane, IsTag}
+use Rattle.nv_laws_sound.specs.Consistent.{IsBetween, IsConsistent, IsFlying, IsLane}
 use Rattle.nv_laws_sound.specs.Unplaced.{unplaced_lane, unplaced_tag}
 use Rattle.nv_model.proofs.Endings.{and-true}
 use Rattle.nv_model.specs.Memory.{bytes_from}

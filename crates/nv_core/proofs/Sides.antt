@@ -6,7 +6,6 @@ use Rattle.nv_core.specs.Front.{ComesTo, HasTailMoved, IsLive, IsSideOf, IsStepI
 use Rattle.nv_core.specs.Kept.{AreKept, IsKept, IsLent}
 use Rattle.nv_core.specs.State.{IsOf, IsStep, State, world_of}
 use Rattle.nv_device.specs.Physical.{no_lane, with_lane}
-use Rattle.nv_device.specs.State.{Physical}
 use Rattle.nv_disk.specs.Flat.{byte_of_block}
 use Rattle.nv_disk.specs.Marks.{mark_of}
 use Rattle.nv_laws_sound.proofs.Lists.{set-same, some-same}

@@ -1,5 +1,5 @@
 -- A command that was taken, planned, and carried out or put back.
-use Rattle.std.proofs.Common.{◌≡◌, ℕ, ◌<◌, ◌⊎◌, inl, inr, List, [], ◌∷◌, length, None, Some, cond, true, false, arith, refl, sym, ap, ◌∙◌, subst}
+use Rattle.std.proofs.Common.{◌≡◌, ℕ, ◌<◌, ◌⊎◌, inl, inr, List, [], ◌∷◌, length, None, Some, cond, arith, refl, sym, ap, ◌∙◌, subst}
 use Rattle.nv_core.proofs.MadeParts.{made-whole, whole-of}
 use Rattle.nv_core.proofs.Waits.{moved-group}
 use Rattle.nv_core.specs.Groups.{all_handed, tags_changed}

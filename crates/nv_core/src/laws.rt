@@ -6,6 +6,8 @@
 ghost use Rattle.std.specs.Prelude.{◌≡◌, ℕ, List, Some, length, slice_get};
 ghost use Rattle.nv_core.specs.Front.{IsBeside, IsReaped, IsSideOf, IsSideStep, IsStepBeside, IsStepInEach, Side, opening_side};
 ghost use Rattle.nv_core.specs.Kept.{IsKept, IsLent};
+ghost use Rattle.nv_core.specs.Places.{placed_lanes};
+ghost use Rattle.nv_laws_sound.specs.Consistent.{IsConsistent};
 ghost use Rattle.nv_laws_sound.specs.Mediators.{IsMediators};
 ghost use Rattle.nv_laws_sound.specs.Unplaced.{IsControllers};
 ghost use Rattle.nv_model.specs.Memory.{byte_in};
@@ -37,6 +39,12 @@ pub fn a_call_is_a_step_of_each_world()
 pub fn the_controller_leaves_a_side_alone()
     ensures { (geometry : Geometry) (e : Event) (side : Side) (before after : List ℕ) (w : World) → IsControllers e → IsBeside side before w →
         (step geometry e w).world.host ≡ byte_in after → IsBeside side after (step geometry e w).world }
+{}
+
+/// Where each part is follows from the rings and the physical controller, as in any consistent world: so nobody needs to keep it.
+pub fn the_places_of_parts_follow()
+    ensures { (geometry : Geometry) (w : World) → IsConsistent geometry w →
+        placed_lanes geometry.mediator 0 w.host w.device w.lanes ≡ w.lanes }
 {}
 
 /// What a call asks of its side and memory it leaves to the next one, whatever is in memory: so any calls may follow each other.

@@ -1,4 +1,4 @@
-use Rattle.std.proofs.Common.{◌∙◌, length, set, sym, ap, subst}
+use Rattle.std.proofs.Common.{◌∙◌, length, sym, ap}
 use Rattle.nv_core.proofs.Delegated.{controllers-step, tails-posted}
 use Rattle.nv_core.proofs.DeviceNeeds.{holding-at}
 use Rattle.nv_core.proofs.DevicePosts.{answered, fail-done, fail-idle, fail-no_slot, fail-success, some-there_by, success-told}

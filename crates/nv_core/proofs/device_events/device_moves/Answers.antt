@@ -1,4 +1,4 @@
-use Rattle.std.proofs.Common.{◌∙◌, length, refl, sym, subst}
+use Rattle.std.proofs.Common.{◌∙◌, length, sym, subst}
 use Rattle.nv_core.proofs.Delegated.{controllers-step, tails-moved}
 use Rattle.nv_core.proofs.DeviceNeeds.{may-move}
 use Rattle.nv_core.proofs.DeviceSteps.{both-below, move-no_slot, move-step}

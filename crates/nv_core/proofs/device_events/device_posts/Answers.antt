@@ -11,7 +11,6 @@ use Rattle.nv_device.specs.State.{Physical}
 use Rattle.nv_device.specs.declared.response.Response.{Response}
 use Rattle.nv_device.specs.declared.response.Response.TheVariants as response
 use Rattle.nv_model.specs.declared.reply.Reply.{Reply}
-use Rattle.nv_model.specs.declared.reply.Reply.TheVariants as reply
 use Rattle.nv_world_model.specs.Area.{tag_count}
 use Rattle.nv_world_model.specs.Device.{held_status}
 use Rattle.nv_world_model.specs.declared.event.Event.TheVariants as event

@@ -1,4 +1,4 @@
-use Rattle.std.proofs.Common.{◌≡◌, ◌<◌, ◌≤◌, ◌∙◌, true, false, not, length, set, sym, ap, arith}
+use Rattle.std.proofs.Common.{◌≡◌, ◌<◌, ◌≤◌, ◌∙◌, true, length, set, sym, ap, arith}
 use Rattle.nv_core.proofs.Delegated.{controllers-step, tails-taken}
 use Rattle.nv_core.proofs.DeviceNeeds.{may-take, next-at}
 use Rattle.nv_core.proofs.DeviceTakes.{take-done, take-idle, take-no_device}

@@ -1,23 +1,19 @@
 use Rattle.std.proofs.Common.{◌≡◌, ℕ, ◌+◌, ◌<◌, ◌^◌, ◌∙◌, List, Some, length, set, slice_get, ap, refl, subst, sym, arith, Bool, true, false, not, ◌≤◌}
 use Rattle.nv_core.proofs.Besides.{beside-done, beside-flies, beside-idle, beside-none, beside-queue}
 use Rattle.nv_core.proofs.GroupWorlds.{looked-up}
-use Rattle.nv_core.proofs.PhasedReaps.{alike, low, must-idle, must-wait, phased, unlike}
+use Rattle.nv_core.proofs.PhasedReaps.{alike, unlike}
 use Rattle.nv_core.proofs.ReapAnswers.{done-told, idle-told, named-flies, not-stray, stray-told}
-use Rattle.nv_core.proofs.Reaps.{aloft, reap-done, reap-idle, reap-no_lane, reaped-as}
-use Rattle.nv_core.proofs.Sides.{of-live, own, quiet-in, reaped-in, state_in}
+use Rattle.nv_core.proofs.Reaps.{aloft, reaped-as}
+use Rattle.nv_core.proofs.Sides.{own, reaped-in}
 use Rattle.nv_core.specs.Front.{IsBeside, IsSideOf, Side}
 use Rattle.nv_core.specs.Kept.{IsLent}
-use Rattle.nv_core.specs.State.{IsOf, State}
 use Rattle.nv_core.specs.Tags.{state_in as point_in}
-use Rattle.nv_device.specs.Physical.{lane_of}
-use Rattle.nv_entry.specs.Completion.{cid_of, phase_of}
+use Rattle.nv_entry.specs.Completion.{cid_of}
 use Rattle.nv_laws_sound.proofs.Lists.{set-same, slice_get-below}
-use Rattle.nv_laws_sound.specs.Phased.{phase_at}
 use Rattle.nv_model.specs.Memory.{byte_in, bytes_from}
 use Rattle.nv_model.specs.Queue.{cqe_size}
 use Rattle.nv_world_model.specs.Area.{completion_slot, lane_start}
 use Rattle.nv_world_model.specs.World.{Flying, Lane}
-use Rattle.nv_world_model.specs.declared.event.Event.TheVariants as event
 use mathlib.Core.Bool.{beq}
 use Rattle.nv_core.proofs.front.Front.reap.Goals as goal
 

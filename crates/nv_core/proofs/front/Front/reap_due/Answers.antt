@@ -1,24 +1,13 @@
 use Rattle.std.proofs.Common.{◌≡◌, ℕ, ◌+◌, ◌<◌, ◌^◌, ◌∙◌, List, Some, length, slice_get, ap, subst, sym, arith}
 use Rattle.nv_core.proofs.Besides.{beside-due, undue-none}
-use Rattle.nv_core.proofs.Dues.{due-told, reap-due}
-use Rattle.nv_core.proofs.PhasedReaps.{low, phased, shows}
 use Rattle.nv_core.proofs.GroupWorlds.{looked-up}
 use Rattle.nv_core.proofs.ReapAnswers.{waits-told}
-use Rattle.nv_core.proofs.Reaps.{reap-no_lane}
-use Rattle.nv_core.proofs.Sides.{due-side, of-side, state_in}
-use Rattle.nv_core.proofs.KeptStates.{IsKeptOf}
-use Rattle.nv_core.specs.Front.{IsBeside, IsSideOf, Side}
+use Rattle.nv_core.specs.Front.{IsBeside, Side}
 use Rattle.nv_core.specs.Kept.{IsLent}
-use Rattle.nv_core.specs.State.{State}
-use Rattle.nv_device.specs.Physical.{lane_of}
-use Rattle.nv_entry.specs.Completion.{phase_of}
-use Rattle.nv_laws_sound.specs.Phased.{phase_at}
 use Rattle.nv_model.specs.Memory.{byte_in, bytes_from}
 use Rattle.nv_model.specs.Queue.{cqe_size}
 use Rattle.nv_world_model.specs.Area.{completion_slot, lane_start}
 use Rattle.nv_world_model.specs.World.{Lane}
-use Rattle.nv_model.specs.declared.reply.Reply.TheVariants as reply
-use Rattle.nv_world_model.specs.declared.event.Event.TheVariants as event
 use Rattle.nv_core.proofs.front.Front.reap_due.Goals as goal
 
 pub completion_slot-slot-requires-clause-area : goal.completion_slot-slot-requires-clause-area
