@@ -1,14 +1,14 @@
 -- A plan under way that was put aside, and goes on.
-use Rattle.std.proofs.Common.{◌≡◌, ℕ, List, [], ◌∷◌, ◌++◌, refl, sym, ap, subst, ◌∙◌}
+use Rattle.std.proofs.Common.{◌≡◌, ℕ, List, [], ◌++◌, sym, ap, subst, ◌∙◌}
 use Rattle.std.specs.Global.{Box}
 use Rattle.nv_mem.specs.GuestMap.{mapped}
 use Rattle.nv_model.specs.Judge.{judge}
-use Rattle.nv_model.specs.Transcript.{ReadDone, in_transcript}
+use Rattle.nv_model.specs.Transcript.{in_transcript}
 use Rattle.nv_ns.specs.Extents.{blocks_in}
 use Rattle.nv_prp.specs.Parse.{Parse as Pages, dialogue_of as pages_of}
 use Rattle.nv_sgl.specs.Parse.{Parse as Descriptors, dialogue_of as descriptors_of}
 use Rattle.nv_world_model.specs.Geometry.{Guest, regions_of}
-use Rattle.nv_plan.specs.Drafted.{IsListed, IsSound, IsSoundStage, IsSource, IsUnderWay, IsUnmet, ahead_at, left_to_read, next_at}
+use Rattle.nv_plan.specs.Drafted.{IsListed, IsSoundStage, IsSource, IsUnderWay, IsUnmet, ahead_at, left_to_read, next_at}
 use Rattle.nv_plan.specs.Drawn.{given_of}
 use Rattle.nv_plan.specs.Resting.{IsAside, IsOn, IsRest}
 use Rattle.nv_plan.specs.declared.aside.Rest.{Rest}
@@ -17,7 +17,6 @@ use Rattle.nv_plan.specs.declared.draft.Buffered.{Buffered}
 use Rattle.nv_plan.specs.declared.draft.Draft.{Draft}
 use Rattle.nv_plan.specs.declared.draft.Stage.{Stage}
 use Rattle.nv_plan.specs.declared.draft.Stage.TheVariants as stage
-use Rattle.nv_plan.specs.declared.given.GrantRef.{GrantRef}
 use Rattle.nv_plan.specs.declared.job.Job.{Job}
 use Rattle.nv_plan.specs.declared.source.Source.{Source}
 

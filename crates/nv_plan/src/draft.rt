@@ -67,49 +67,37 @@ pub(crate) struct Draft<'a, A: Allocator + Clone> {
 }
 
 impl<'a> GrantRef<'a> {
-    /// The draft of a command of which nothing was read.
+    // How the reading of a command's lists begins. It is written where it stays: a `Stage` is large where it moves.
     #[inline(always)]
-    pub(crate) fn draft<A: Allocator + Clone>(
-        self,
-        heap: A,
-        alloc: Global,
-        sqe: &Sqe,
-    ) -> Result<Draft<'a, A>, NoMemory>
-        requires { 0 < self.limit }
-        ensures { IfOk result (λ draft. IsDraft self.entry sqe.now draft) }
-    {
-        let stage = self.stage(heap, alloc, sqe)?;
-        Ok(Draft {
-            given: self,
-            sqe: *sqe,
-            stage,
-        })
-    }
-
-    // How the reading of a command's lists begins.
-    #[inline(always)]
-    fn stage<A: Allocator + Clone>(
+    fn begin<A: Allocator + Clone>(
         &self,
         heap: A,
         alloc: Global,
         sqe: &Sqe,
-    ) -> Result<Stage<'a, A>, NoMemory>
+        stage: &mut Stage<'a, A>,
+    ) -> Result<(), NoMemory>
         requires { 0 < self.now.limit }
-        ensures sound { IfOk result (λ stage. IsSoundStage (given_of self.now) sqe.now stage) }
-        ensures ahead { IfOk result (λ stage. ahead_at (blocks_in self.now.ns.now) sqe.now stage
+        ensures sound { OnOk result (IsSoundStage (given_of self.now) sqe.now stage.new) }
+        ensures ahead { OnOk result (ahead_at (blocks_in self.now.ns.now) sqe.now stage.new
             ≡ judge (mapped self.now.map.now.regions) self.now.limit (blocks_in self.now.ns.now) sqe.now) }
     {
         let need = match judge_fields(sqe, self.ns) {
             Ok(need) => need,
-            Err(status) => return Ok(Stage::Refused(status)),
+            Err(status) => {
+                *stage = Stage::Refused(status);
+                return Ok(());
+            }
         };
         let Some(opcode) = sqe.io_opcode() else {
             unreachable!()
         };
         match opcode {
-            IoOpcode::Flush | IoOpcode::WriteZeroes => Ok(Stage::Bare(opcode)),
+            IoOpcode::Flush | IoOpcode::WriteZeroes => {
+                *stage = Stage::Bare(opcode);
+                Ok(())
+            }
             IoOpcode::Read | IoOpcode::Write | IoOpcode::Compare | IoOpcode::DatasetManagement =>
-                self.list(heap, alloc, sqe, Buffered { opcode, need }),
+                self.list(heap, alloc, sqe, Buffered { opcode, need }, stage),
         }
     }
 
@@ -121,12 +109,13 @@ impl<'a> GrantRef<'a> {
         alloc: Global,
         sqe: &Sqe,
         buffered: Buffered,
-    ) -> Result<Stage<'a, A>, NoMemory>
+        stage: &mut Stage<'a, A>,
+    ) -> Result<(), NoMemory>
         requires limit { 0 < self.now.limit }
         requires known { IsKnown (given_of self.now) sqe.now buffered.opcode buffered.need }
         requires buffer { has_buffer buffered.opcode ≡ true }
-        ensures sound { IfOk result (λ stage. IsSoundStage (given_of self.now) sqe.now stage) }
-        ensures ahead { IfOk result (λ stage. ahead_at (blocks_in self.now.ns.now) sqe.now stage
+        ensures sound { OnOk result (IsSoundStage (given_of self.now) sqe.now stage.new) }
+        ensures ahead { OnOk result (ahead_at (blocks_in self.now.ns.now) sqe.now stage.new
             ≡ judge (mapped self.now.map.now.regions) self.now.limit (blocks_in self.now.ns.now) sqe.now) }
     {
         let Need { dest, bytes, .. } = buffered.need;
@@ -134,15 +123,16 @@ impl<'a> GrantRef<'a> {
         match sqe.data_pointer() {
             DataPointer::Prp => {
                 let parse = PrpParse::new(self.map, sqe.prp1(), sqe.prp2(), bytes);
-                Ok(Stage::Pages(buffered, Box::new(alloc, parse)?))
+                *stage = Stage::Pages(buffered, Box::new(alloc, parse)?);
             }
             DataPointer::Sgl => {
                 let first = sqe.sgl();
                 let parse = SglParse::with_limit(heap, self.map, first, dest, bytes, self.limit)?;
-                Ok(Stage::Descriptors(buffered, parse))
+                *stage = Stage::Descriptors(buffered, parse);
             }
-            DataPointer::Reserved => Ok(Stage::Refused(StatusCode::InvalidField.refused())),
+            DataPointer::Reserved => *stage = Stage::Refused(StatusCode::InvalidField.refused()),
         }
+        Ok(())
     }
 }
 
@@ -162,6 +152,15 @@ fn ahead_of_list(opcode: IoOpcode, want: Want) -> Ahead
 }
 
 impl<'a, A: Allocator + Clone> Draft<'a, A> {
+    /// Starts with the command, of which nothing was read. Its stage may be any.
+    #[inline(always)]
+    pub(crate) fn begin(&mut self, heap: A, alloc: Global) -> Result<(), NoMemory>
+        requires { 0 < self.old.given.limit }
+        ensures { OnOk result (IsDraft self.old.given self.old.sqe self.new) }
+    {
+        self.given.begin(heap, alloc, &self.sqe, &mut self.stage)
+    }
+
     /// Goes on with all that the job's transcript has, from the beginning on, and says what is wanted next.
     #[inline(always)]
     pub(crate) fn catch_up(&mut self, alloc: Global, job: &Job) -> Result<Next, NoMemory>

@@ -26,7 +26,7 @@ ghost use Rattle.nv_plan.specs.Told.{portion_cut};
 use crate::aside::Aside;
 use crate::comparing::{same_extents, same_map};
 use crate::cutting::cut_up;
-use crate::draft::{Ahead, Draft};
+use crate::draft::{Ahead, Draft, Stage};
 use crate::given::GrantRef;
 use crate::job::Job;
 use crate::kept_ns::KeptNs;
@@ -39,7 +39,7 @@ use crate::portions::Portions;
 use crate::ranges::portions_met;
 use crate::tags::parts_of;
 use crate::transcript::{ReadDone, Transcript};
-use nv_entry::Sqe;
+use nv_entry::{IoOpcode, Sqe};
 use nv_judge::judge_ranges;
 use nv_mem::{GuestMap, NoMemory, Places};
 use nv_ns::VirtualNs;
@@ -90,7 +90,12 @@ impl<'a, A: Allocator + Clone> Planning<'a, A> {
         ensures err { IfErr result (λ back. back ≡ job) }
     {
         let given = GrantRef { map, ns, limit };
-        let Ok(mut draft) = given.draft(heap, alloc, &job.sqe) else {
+        let mut draft = Draft {
+            given,
+            sqe: job.sqe,
+            stage: Stage::Bare(IoOpcode::Flush),
+        };
+        let Ok(()) = draft.begin(heap, alloc) else {
             return Err(job);
         };
         match draft.catch_up(alloc, &job) {
@@ -279,7 +284,12 @@ pub fn make_plan<A: Allocator + Clone>(
     ensures { IsPlanned result job (record { memory_map = map.now; namespace = ns.now; limit = limit }) }
 {
     let given = GrantRef { map, ns, limit };
-    let Ok(mut draft) = given.draft(heap, alloc, &job.sqe) else {
+    let mut draft = Draft {
+        given,
+        sqe: job.sqe,
+        stage: Stage::Bare(IoOpcode::Flush),
+    };
+    let Ok(()) = draft.begin(heap, alloc) else {
         return Planned::NoMemory(job);
     };
     match draft.catch_up(alloc, &job) {

@@ -2,7 +2,7 @@ use Rattle.std.proofs.Common.{◌≡◌, inl, inr, false, refl, sym, ap}
 use Rattle.nv_model.specs.Judge.{has_buffer}
 use Rattle.nv_plan.specs.Drawn.{given_of}
 use Rattle.nv_plan.proofs.PlanCases.{known-by, left-bare, left-refused}
-use Rattle.nv_plan.proofs.given.GrantRef.stage.Goals as goal
+use Rattle.nv_plan.proofs.given.GrantRef.begin.Goals as goal
 
 pub returns-in-Err-clause-ahead : goal.returns-in-Err-clause-ahead
 returns-in-Err-clause-ahead g c = left-refused (given_of c.args.self.now) c.args.sqe.now c.in-Err.status (sym c.in-Err.ensures)
