@@ -1,7 +1,6 @@
 //! Entries that the device takes.
 
-ghost use Rattle.std.specs.Prelude.{◌≡◌, ◌<◌, ◌↔◌, if◌then◌else◌, IsTrue, IfOk, OnErr, length};
-ghost use Rattle.nv_entry.specs.Submission.{cid_of};
+ghost use Rattle.std.specs.Prelude.{◌≡◌, ◌<◌, ◌↔◌, IsTrue, IfOk, OnErr, length};
 ghost use Rattle.nv_device.specs.Physical.{HoldsArea, done_where};
 ghost use Rattle.nv_device.specs.Taking.{MayTake, front_of, taken, waits};
 
@@ -56,19 +55,6 @@ impl Device {
         let command = Command::new(alloc, sqe, host)?;
         self.lanes[usize::from(lane)].take(sqe.cid() as u8, command);
         Ok(Response::Done)
-    }
-
-    /// The identifier of the front entry of a lane's submission ring, under which [`Device::take`] takes it; `None` where none waits.
-    pub fn front_identifier(&self, lane: u8, host: &Host) -> Option<u16>
-        requires lane { lane < length self.now.lanes }
-        requires area { HoldsArea (length host.now) self.now }
-        ensures { result ≡ (if waits lane self.now then Some (cid_of (front_of lane host.now self.now)) else None) }
-    {
-        let ring = &self.lanes[usize::from(lane)];
-        if ring.is_idle() {
-            return None;
-        }
-        Some(self.front_entry(lane, host).cid())
     }
 
     /// Whether an entry of a lane's submission ring waits.
