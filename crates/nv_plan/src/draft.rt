@@ -67,7 +67,7 @@ pub(crate) struct Draft<'a, A: Allocator + Clone> {
 }
 
 impl<'a> GrantRef<'a> {
-    // How the reading of a command's lists begins. It is written where it stays: a `Stage` is large where it moves.
+    // Writes how the reading of a command's lists begins.
     #[inline(always)]
     fn begin<A: Allocator + Clone>(
         &self,
@@ -101,7 +101,7 @@ impl<'a> GrantRef<'a> {
         }
     }
 
-    // How the reading of its list begins, where it has a buffer.
+    // Writes how the reading of its list begins, where it has a buffer.
     #[inline(always)]
     fn list<A: Allocator + Clone>(
         &self,
@@ -152,7 +152,8 @@ fn ahead_of_list(opcode: IoOpcode, want: Want) -> Ahead
 }
 
 impl<'a, A: Allocator + Clone> Draft<'a, A> {
-    /// Starts with the command, of which nothing was read. Its stage may be any.
+    /// Begins with its command, of which nothing was read. The stage that it had before does not matter: the new one is written in its
+    /// place, since a draft costs time where it moves.
     #[inline(always)]
     pub(crate) fn begin(&mut self, heap: A, alloc: Global) -> Result<(), NoMemory>
         requires { 0 < self.old.given.limit }
