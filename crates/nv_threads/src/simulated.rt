@@ -260,12 +260,29 @@ impl<'a> Simulation<'a> {
     // Turns of the physical controller on a lane until it has made an event or has none to make; whether they came to an end, and it made what it
     // should.
     fn device_turn(&mut self, lane: u8, is_late: bool) -> bool {
+        if !self.device_polls(lane, is_late) {
+            return self.has_nothing_to_move(lane);
+        }
         let before = events(&self.locked.world);
+        for _ in 0..PASSES {
+            let Some(told) = self.device_pass(lane) else {
+                return self.has_nothing_to_move(lane);
+            };
+            if events(&self.locked.world) != before {
+                self.ring(told);
+                return self.was_due(before);
+            }
+        }
+        false
+    }
+
+    // Whether the physical controller polls a lane now.
+    fn device_polls(&mut self, lane: u8, is_late: bool) -> bool {
         let Some(seat) = self.devices.get_mut(usize::from(lane)) else {
             return false;
         };
         if !seat.looks(is_late) {
-            return self.has_nothing_to_move(lane);
+            return false;
         }
         if seat.waits {
             self.met.woken = self.met.woken.saturating_add(u64::from(seat.is_rung));
@@ -274,19 +291,23 @@ impl<'a> Simulation<'a> {
             }
         }
         seat.is_rung = false;
-        for _ in 0..PASSES {
-            let concern = seat.worker.turn(&mut self.locked, self.alloc);
-            seat.waits = concern.is_none();
-            let Some(told) = concern else {
-                return self.has_nothing_to_move(lane);
-            };
-            if let Some(logged) = entry(&self.locked.world, before) {
-                let is_right = was_due(logged);
-                self.ring(told);
-                return is_right;
-            }
+        true
+    }
+
+    // One of its turns: whom it concerns, or `None` where there was nothing to do.
+    fn device_pass(&mut self, lane: u8) -> Option<Concern> {
+        let seat = self.devices.get_mut(usize::from(lane))?;
+        let concern = seat.worker.turn(&mut self.locked, self.alloc);
+        seat.waits = concern.is_none();
+        concern
+    }
+
+    // Whether the event that was made after so many was due.
+    fn was_due(&self, before: usize) -> bool {
+        match self.made(before) {
+            Some(logged) => was_due(logged),
+            None => false,
         }
-        false
     }
 
     // Turns of a planner until it has made an event or has none to make; whether they came to an end, and it made what it should and notified

@@ -195,10 +195,12 @@ fn is_part(plan: &Plan, part: u8, told: &Told) -> bool {
 
 // Whether the first parts of a plan are these.
 fn are_parts(plan: &Plan, parts: &[Told]) -> bool {
-    for (at, told) in parts.iter().enumerate() {
-        if !is_part(plan, at as u8, told) {
+    let mut part: u8 = 0;
+    for told in parts {
+        if !is_part(plan, part, told) {
             return false;
         }
+        part = part.wrapping_add(1);
     }
     true
 }
