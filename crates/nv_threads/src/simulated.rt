@@ -61,6 +61,13 @@ const CHECKED: u32 = 61;
 /// How many turns workers have alone until all commands have run out.
 const LAST_TURNS: u32 = 10_000;
 
+/// An admin command of a guest was answered, or a command of its was taken on a lane.
+#[derive(Clone, Copy)]
+enum Move {
+    Admin(u8),
+    Take(u8, u8),
+}
+
 /// A world with its guests and workers.
 #[derive(Drop)]
 struct Simulation<'a> {
@@ -347,17 +354,16 @@ impl<'a> Simulation<'a> {
     // Whether the event after so many was due, and the guest was notified of it where it is an admin command's answer. Whose commands were taken is
     // noted.
     fn has_told(&mut self, before: usize, told: Concern) -> Result<bool, Fail> {
-        let Some(logged) = entry(&self.locked.world, before) else {
-            return Ok(false);
-        };
-        self.ended.follow(&self.locked.notes, Some(logged));
-        if !was_due(logged) {
+        self.ended
+            .follow(&self.locked.notes, entry(&self.locked.world, before));
+        if !self.was_due(before) {
             return Ok(false);
         }
-        match &logged.event {
-            Event::Admin(guest) => Ok(told.guests == bit(*guest) && self.has_rung(*guest, told)),
-            Event::Take(guest, _queue, lane) => {
-                let (guest, lane) = (*guest, *lane);
+        match self.moved(before) {
+            Some(Move::Admin(guest)) => {
+                Ok(told.guests == bit(guest) && self.has_rung(guest, told))
+            }
+            Some(Move::Take(guest, lane)) => {
                 self.met.passed = self
                     .met
                     .passed
@@ -365,7 +371,16 @@ impl<'a> Simulation<'a> {
                 self.note_owners(lane)?;
                 Ok(told.guests == 0 && self.has_rung(guest, told))
             }
-            _ => Ok(told.guests == 0),
+            None => Ok(told.guests == 0),
+        }
+    }
+
+    // What a planner did by the event after so many, where its guest may have to be notified.
+    fn moved(&self, before: usize) -> Option<Move> {
+        match &self.made(before)?.event {
+            Event::Admin(guest) => Some(Move::Admin(*guest)),
+            Event::Take(guest, _queue, lane) => Some(Move::Take(*guest, *lane)),
+            _ => None,
         }
     }
 
