@@ -75,7 +75,7 @@ silent() {
     check "guest 0 is busy before its drive stops" waits_for 0 busy 60
     kill -STOP "$drive"
     check "the host program ends with the status of a drive that failed" host_ended 3
-    check "and says so" grep -q '^nvmed-host: the drive: .* did not answer\|^nvmed-host: the drive: .* has not answered' "$room/host"
+    check "and says that it did not answer" grep -q "^nvmed-host: the drive: .*QEMU does not answer in time" "$room/host"
     end_drive
 }
 
