@@ -12,7 +12,7 @@ end_drive() {
     [[ -n $drive ]] || return 0
     kill -TERM "$drive"
     kill -CONT "$drive"
-    wait "$drive" || true
+    wait "$drive" 2> /dev/null || true
     drive=
 }
 
@@ -29,7 +29,7 @@ begin_drive() {
         total=$((total + ${it#* }))
     done
     qemu-system-x86_64 -nodefaults -no-user-config -display none -machine q35,accel=tcg -bios "$room/rom" -m "${total}M" "${words[@]}" "$@" \
-        -device nvme,drive=disk,serial=shared,max_ioqpairs=8 -qtest unix:"$shared/qtest",server=on,wait=off -qtest-log /dev/null &
+        -device nvme,drive=disk,serial=shared,max_ioqpairs=8 -qtest unix:"$shared/qtest",server=on,wait=off -qtest-log /dev/null 2> "$room/drive" &
     drive=$!
     started+=("$drive")
     for _ in {1..100}; do

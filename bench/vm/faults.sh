@@ -35,7 +35,7 @@ killed_once() {
     waits_for 0 busy 60 || status=1
     sleep 0.$((RANDOM % 10))
     kill -KILL "$qemu"
-    wait "$qemu" || true
+    wait "$qemu" 2> /dev/null || true
     return "$status"
 }
 
@@ -52,6 +52,10 @@ killed() {
     } > "$room/configuration"
     rm -f "$shared"/*
     begin_host "$room/configuration"
+    for _ in {1..100}; do
+        [[ ! -S $shared/guest0 ]] || break
+        sleep 0.1
+    done
     for ((it = 1; it <= kills; it++)); do check "guest 0 is busy before its kill $it" killed_once; done
     check "guest 1 goes on beside it" waits_for 1 "guest 1: passed" $((limit - SECONDS))
     check "guest 0 was lost each time" test "$(grep -c '^nvmed-host: guest 0: ' "$room/host")" == "$kills"

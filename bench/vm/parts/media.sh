@@ -7,5 +7,5 @@ if [ -z "$bad" ]; then
 fi
 nvme read $disk -s "$bad" -c 0 -z 512 -d /tmp/block > /tmp/said 2>&1
 cat /tmp/said
-grep -q '(0x4281)\|(0x281)' /tmp/said || exit 1
+grep -q '(0x281)' /tmp/said || exit 1
 nvme read $disk -s $((bad - 8)) -c 7 -z 4096 -d /tmp/block && nvme read $disk -s $((bad + 8)) -c 7 -z 4096 -d /tmp/block
