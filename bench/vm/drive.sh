@@ -6,14 +6,14 @@ source "$top/bench/vm/linux.sh"
 
 # files of memory that are the RAM of the QEMU with the drive, in this order, and their MiB: the mediator's part, and each guest's
 nodes=("area 32" "ram0 $memory" "ram1 $memory" "ram2 $memory")
-drive=
+emulator=
 
 end_drive() {
-    [[ -n $drive ]] || return 0
-    kill -TERM "$drive"
-    kill -CONT "$drive"
-    wait "$drive" 2> /dev/null || true
-    drive=
+    [[ -n $emulator ]] || return 0
+    kill -TERM "$emulator"
+    kill -CONT "$emulator"
+    wait "$emulator" 2> /dev/null || true
+    emulator=
 }
 
 # Starts the QEMU with the controller, anew where there is one, with further words for its disk, which are to name a node `disk`. A ROM of 64 KiB whose reset
@@ -30,8 +30,8 @@ begin_drive() {
     done
     qemu-system-x86_64 -nodefaults -no-user-config -display none -machine q35,accel=tcg -bios "$room/rom" -m "${total}M" "${words[@]}" "$@" \
         -device nvme,drive=disk,serial=shared,max_ioqpairs=8 -qtest unix:"$shared/qtest",server=on,wait=off -qtest-log /dev/null 2> "$room/drive" &
-    drive=$!
-    started+=("$drive")
+    emulator=$!
+    started+=("$emulator")
     for _ in {1..100}; do
         [[ ! -S $shared/qtest ]] || return 0
         sleep 0.1

@@ -77,7 +77,7 @@ silent() {
     begin_image
     begin_host "$room/configuration"
     check "guest 0 is busy before its drive stops" waits_for 0 busy 60
-    kill -STOP "$drive"
+    kill -STOP "$emulator"
     check "the host program ends with the status of a drive that failed" host_ended 3
     check "and says that it did not answer" grep -q "^nvmed-host: the drive: .*QEMU does not answer in time" "$room/host"
     end_drive
