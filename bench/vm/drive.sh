@@ -10,8 +10,8 @@ emulator=
 
 end_drive() {
     [[ -n $emulator ]] || return 0
-    kill -TERM "$emulator"
-    kill -CONT "$emulator"
+    kill -TERM "$emulator" 2> /dev/null || true
+    kill -CONT "$emulator" 2> /dev/null || true
     wait "$emulator" 2> /dev/null || true
     emulator=
 }

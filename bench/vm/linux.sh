@@ -4,8 +4,9 @@
 modules=(crypto/crct10dif_common lib/crc64 crypto/crc64_rocksoft_generic lib/crc64-rocksoft lib/crc-t10dif block/t10-pi drivers/nvme/host/nvme-core
     drivers/nvme/host/nvme lib/crc16 crypto/crc32c_generic fs/mbcache fs/jbd2/jbd2 fs/ext4/ext4)
 programs=(nvme mke2fs fio e2fsck)
-# under TCG no interrupt gets through QEMU's proxy: the kernel polls (docs/HOSTING.md)
-words="console=ttyS0 quiet panic=-1 pci=nomsi irqpoll nolapic_timer"
+# under TCG no interrupt gets through QEMU's proxy: the kernel polls (docs/HOSTING.md). Beside other work its timer may seem to stand still, which is no
+# reason to panic.
+words="console=ttyS0 quiet panic=-1 pci=nomsi irqpoll nolapic_timer no_timer_check"
 [[ $accelerator == tcg ]] || words="console=ttyS0 quiet panic=-1 pci=nomsi"
 # of a guest, in two extents
 blocks=65536
