@@ -2,7 +2,7 @@
 """scripts.py [PROGRAM]: runs the cases of tests/ on a built nvmed, and compares what it prints, what it reports and its status with what each
 case wants. tests/README.md has the format of a case. Where no PROGRAM is given, it is crates/nvmed/out/nvmed, which `rt ci` leaves there.
 
-Cases run side by side, one a processor, each run of the program for 20 seconds at most, or for LIMIT seconds where the environment has that: a
+Cases run side by side, one a processor, each run of the program for 60 seconds at most, or for LIMIT seconds where the environment has that: a
 program that `./nvmed try` built without proofs (crates/nvmed/out/nvmed.tried) needs minutes for the longest. A line is printed for each case that
 fails, with the first line that differs. The last line is 'N passed, M failed', and the status is 0 where M is 0."""
 import concurrent.futures
@@ -19,7 +19,7 @@ ROOT = os.path.dirname(os.path.dirname(os.path.abspath(__file__)))
 TESTS = os.path.join(ROOT, "tests")
 PROGRAM = os.path.join(ROOT, "crates", "nvmed", "out", "nvmed")
 # the most seconds that a run of the program may take
-LIMIT = float(os.environ.get("LIMIT", "20"))
+LIMIT = float(os.environ.get("LIMIT", "60"))
 # the most characters that are shown of a line
 SHOWN = 100
 NAMES = ("args", "stdin", "events", "stdout", "stderr", "status", "runs", "seconds", "rows")
