@@ -1,4 +1,5 @@
 pub mod KeptStates
+pub mod Notes
 pub mod Placed
 pub mod Clear
 pub mod LentHost
@@ -24,6 +25,7 @@ pub mod PostParts
 pub mod Posts
 pub mod TagLists
 pub mod LaneTags
+pub mod MarkedTags
 pub mod Claims
 pub mod FlyingTags
 pub mod EndingTags

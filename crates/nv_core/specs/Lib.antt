@@ -2,6 +2,7 @@ pub mod Places
 pub mod State
 pub mod Front
 pub mod Kept
+pub mod Noted
 pub mod Reaping
 pub mod Tags
 pub mod Groups

@@ -14,7 +14,7 @@ use Rattle.nv_tags.specs.declared.state.TagState.TheVariants as state
 use Rattle.nv_tags.specs.Tags as slot
 use Rattle.nv_world_model.specs.Area.{ring_size, tag_count}
 use Rattle.nv_world_model.specs.Share.{Share}
-use Rattle.nv_world_model.specs.World.{Command, Ended, Flying, Free, InDevice, Tag, Taken}
+use Rattle.nv_world_model.specs.World.{Command, Ended, Flying, Free, InDevice, Lane, Tag, Taken, tags_where}
 
 -- the plan that is kept of a command, in the tag that it goes by, once it was handed on
 abbrev pub plan_kept : Progress → Option MadePlan
@@ -144,6 +144,28 @@ is_flying (Some Free) = false
 is_flying (Some (Taken command reads)) = false
 is_flying (Some (Flying command share at)) = true
 is_flying (Some (Ended command st share)) = false
+
+-- whether a tag's command was taken, and no more; whether its part has ended
+abbrev pub is_taken : Tag → Bool
+is_taken Free = false
+is_taken (Taken command reads) = true
+is_taken (Flying command share at) = false
+is_taken (Ended command st share) = false
+
+abbrev pub is_ended : Tag → Bool
+is_ended Free = false
+is_ended (Taken command reads) = false
+is_ended (Flying command share at) = false
+is_ended (Ended command st share) = true
+
+-- those tags of a lane, in order
+abbrev pub taken_in : Option Lane → List ℕ
+taken_in None = []
+taken_in (Some l) = tags_where is_taken l.tags
+
+abbrev pub ended_in : Option Lane → List ℕ
+ended_in None = []
+ended_in (Some l) = tags_where is_ended l.tags
 
 -- the command of a tag
 abbrev pub command_at : Option Tag → Option Command

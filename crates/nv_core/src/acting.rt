@@ -8,6 +8,7 @@ ghost use Rattle.nv_model.specs.Memory.{byte_in};
 
 use crate::front::Front;
 use crate::layout::{Grant, Layout};
+use crate::noting::noted;
 use crate::seat;
 use nv_mem::{MemoryCell, NoMemory};
 use nv_model::{Act, Reply};
@@ -45,6 +46,7 @@ impl Front {
         if number >= self.controllers.len() {
             return Ok(Reply::Ignored);
         }
+        self.noted = noted(self.noted, guest);
         let vctl = &mut self.controllers[number];
         let reply = act_in_seat(alloc, given, act, vctl, host)?;
         Ok(reply)

@@ -7,6 +7,7 @@ ghost use Rattle.nv_core.specs.Kept.{IsLent};
 
 use crate::front::Front;
 use crate::layout::Layout;
+use crate::noting::noted;
 use nv_admin::Admin;
 use nv_mem::MemoryCell;
 use nv_model::Reply;
@@ -30,6 +31,7 @@ impl Front {
             return Reply::Ignored;
         }
         let block_count = given.ns().blocks();
+        self.noted = noted(self.noted, guest);
         let vctl = &mut self.controllers[number];
         reply_of(nv_admin::admin(vctl, block_count, given.map(), host))
     }

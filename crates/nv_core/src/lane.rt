@@ -2,7 +2,7 @@
 
 ghost use Rattle.std.specs.Prelude.{◌≡◌, ◌<◌, ◌∷◌, ◌++◌, [], All, List, ℕ, None, OnErr, OnOk, Some, is_some, option_map, slice_get, true, vec_len};
 ghost use Rattle.nv_core.specs.Groups.{tags_changed};
-ghost use Rattle.nv_core.specs.Tags.{IsReading, command_at, is_flying, state_in, unended, unled, untaken};
+ghost use Rattle.nv_core.specs.Tags.{IsReading, command_at, ended_in, is_flying, state_in, taken_in, unended, unled, untaken};
 ghost use Rattle.nv_core.specs.declared.progress.Progress.TheVariants as progress;
 ghost use Rattle.nv_model.specs.Transcript.{ReadDone as Read};
 ghost use Rattle.nv_tags.specs.Tags.{command_of, set_each};
@@ -96,6 +96,24 @@ impl Lane {
             return None;
         }
         Some(Reply::Stale)
+    }
+
+    /// The tags whose commands were taken, and no more, in order.
+    pub(crate) fn taken(&self) -> Group
+        ensures { result ≡ taken_in (Some self.now) }
+    {
+        // With a field comes what is kept of the lane.
+        let _known = &self.head;
+        self.tags.taken()
+    }
+
+    /// The tags whose parts have ended, in order.
+    pub(crate) fn ended_parts(&self) -> Group
+        ensures { result ≡ ended_in (Some self.now) }
+    {
+        // With a field comes what is kept of the lane.
+        let _known = &self.head;
+        self.tags.ended()
     }
 
     /// Whether so many tags are free.

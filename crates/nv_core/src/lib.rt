@@ -19,6 +19,9 @@
 //! namespace and limit. Its further tags keep the number of their part. Commands of one tag go through functions without a loop. The number of
 //! parts or of extents decides that.
 //!
+//! What there is to do is found without a search: [`Front::taken`] and [`Front::ended`] have the tags of a lane whose commands are at that point, and
+//! [`Front::noted`] the guests of whose queues something may be due. A guest is noted by each call that may change its controller.
+//!
 //! It is a crate of its own because it has conditions on its caller, and needs `nv_laws_sound` alone of the laws. `nv_mediator` makes these
 //! conditions an invariant of its type.
 #![tactic(auto)]
@@ -46,6 +49,8 @@ mod lane_opening;
 pub mod laws;
 mod layout;
 mod lending;
+mod marking;
+mod noting;
 mod opening;
 mod parts;
 mod physical_entry;
@@ -64,5 +69,6 @@ mod writing;
 pub use front::Front;
 pub use holding::Holder;
 pub use layout::{Grant, Layout};
+pub use nv_tags::Group;
 pub use reaping::Stray;
 pub use state::Core;

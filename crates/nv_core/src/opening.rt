@@ -57,6 +57,7 @@ impl Front {
             lanes,
             tails,
             controllers,
+            noted: 0,
         })
     }
 }

@@ -23,6 +23,7 @@ use crate::area::TagPlace;
 use crate::front::Front;
 use crate::lane::Lane;
 use crate::layout::Layout;
+use crate::noting::noted;
 use nv_entry::{IoOpcode, Sqe, Status};
 use nv_mem::{GuestMap, MemoryCell};
 use nv_model::Reply;
@@ -70,6 +71,7 @@ impl Front {
             lane,
             tag,
         };
+        self.noted = noted(self.noted, guest);
         let vctl = &mut self.controllers[usize::from(guest)];
         match settle(place, status, given.map(), ring, vctl, host) {
             Posted::Held => Reply::Held,

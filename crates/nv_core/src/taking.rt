@@ -14,6 +14,7 @@ ghost use Rattle.nv_world_model.specs.Step.{is_io_queue};
 use crate::front::Front;
 use crate::lane::Lane;
 use crate::layout::{Grant, Layout};
+use crate::noting::noted;
 use nv_mem::MemoryCell;
 use nv_model::Reply;
 use nv_model::limits::LAST_QUEUE;
@@ -57,6 +58,7 @@ impl Front {
         if !is_io_queue(queue) {
             return Reply::Ignored;
         }
+        self.noted = noted(self.noted, guest);
         let vctl = &mut self.controllers[number];
         let ring = &mut self.lanes[at];
         take_front(alloc, guest, queue, given, host, vctl, ring)

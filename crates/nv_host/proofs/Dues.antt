@@ -1,16 +1,12 @@
 -- What is due, in each world that a log leads to.
-use Rattle.std.proofs.Common.{◌≡◌, ℕ, Bool, ◌&&◌, List, refl, sym, subst, ap, ◌∙◌}
+use Rattle.std.proofs.Common.{◌≡◌, ℕ, Bool, List, subst}
 use Rattle.nv_core.proofs.Alike.{beside-told}
-use Rattle.nv_core.specs.Front.{IsBeside, IsLive, IsSideOf, Side}
+use Rattle.nv_core.specs.Front.{IsBeside, IsLive, IsSideOf}
 use Rattle.nv_host.proofs.Accepted.{leads-live}
 use Rattle.nv_host.specs.Served.{IsServed, LeadsTo, Served}
-use Rattle.nv_laws_sound.proofs.Unplaced.{placed-alike}
 use Rattle.nv_laws_sound.specs.Mediators.{IsMediators}
-use Rattle.nv_laws_sound.specs.Unplaced.{after_unplaced, unplaced}
-use Rattle.nv_world_model.specs.Due.{due, is_due_kind}
-use Rattle.nv_world_model.specs.Geometry.{Geometry}
-use Rattle.nv_world_model.specs.Step.{After, is_done, step}
-use Rattle.nv_world_model.specs.World.{Lane, World}
+use Rattle.nv_world_model.specs.Due.{due}
+use Rattle.nv_world_model.specs.World.{World}
 use Rattle.nv_world_model.specs.declared.event.Event.{Event}
 use Rattle.nv_world_model.specs.declared.event.Event.TheVariants as event
 use Rattle.nv_world_model.specs.declared.logged.Logged.{Logged}

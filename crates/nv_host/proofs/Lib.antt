@@ -14,6 +14,9 @@ pub mod Reaps
 pub mod Rests
 pub mod Ring
 pub mod Rounds
+pub mod Searches
+pub mod Marked
+pub mod Queues
 pub mod Runs
 pub mod Starts
 pub mod Cleared

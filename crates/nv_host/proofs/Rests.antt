@@ -11,7 +11,7 @@ use Rattle.nv_core.specs.Reaping.{answer_of, is_new, names_command, next_complet
 use Rattle.nv_core.specs.Submit.{IsOfTag}
 use Rattle.nv_core.specs.declared.holding.Holder.{Holder}
 use Rattle.nv_core.proofs.Alike.{unplaced-due}
-use Rattle.nv_host.specs.Passes.{IsOwn, NonePosts, NoneTakes, NoneWaits, NoneWaitsAt}
+use Rattle.nv_host.specs.Passes.{IsOwn, NonePosts, NoneWaits, NoneWaitsAt, QueuesRest}
 use Rattle.nv_host.specs.Served.{IsAccepted, is_offered}
 use Rattle.nv_host.specs.Work.{IsIn, NotDue, Rests, Scene, Waits}
 use Rattle.nv_host.specs.declared.worked.Scope.TheVariants as scope
@@ -37,18 +37,18 @@ use Rattle.nv_world_model.specs.declared.event.Event.TheVariants as event
 pub true-false : (b : Bool) → b ≡ true → b ≡ false → ⊥
 true-false b is isnt = (let bad : true ≡ false = sym is ∙ isnt in cc)
 
-and-false : (b : Bool) → b && false ≡ false
+pub and-false : (b : Bool) → b && false ≡ false
 and-false true = refl
 and-false false = refl
 
-due-not : (geometry : Geometry) (e : Event) (w : World) (a : After) → step geometry e w ≡ a → is_done a.reply ≡ false → due geometry e w ≡ false
+pub due-not : (geometry : Geometry) (e : Event) (w : World) (a : After) → step geometry e w ≡ a → is_done a.reply ≡ false → due geometry e w ≡ false
 unfolding due
 due-not geometry e w a is undone =
     ap (λ (x : After). is_due_kind e && is_done x.reply) is ∙ ap (λ (b : Bool). is_due_kind e && b) undone ∙ and-false (is_due_kind e)
 
 module _ (geometry : Geometry) (w : World) where
   -- an admin command of no guest
-  admin-no_guest : (guest : ℕ) → owner_of geometry w guest ≡ None → due geometry (event.Admin guest) w ≡ false
+  pub admin-no_guest : (guest : ℕ) → owner_of geometry w guest ≡ None → due geometry (event.Admin guest) w ≡ false
   unfolding step
   admin-no_guest guest none =
       due-not geometry (event.Admin guest) w (replied reply.Ignored w)
@@ -61,7 +61,7 @@ module _ (geometry : Geometry) (w : World) where
       due-not geometry (event.Take guest queue lane) w (replied reply.Ignored w)
       (ap (λ (o : Option Owner). for_one o w (λ owner. for_one (slice_get w.lanes lane) w (λ l. take_from queue lane l owner w))) none) refl
 
-  take-no_lane : (guest queue lane : ℕ) → slice_get w.lanes lane ≡ None → due geometry (event.Take guest queue lane) w ≡ false
+  pub take-no_lane : (guest queue lane : ℕ) → slice_get w.lanes lane ≡ None → due geometry (event.Take guest queue lane) w ≡ false
   unfolding due step
   take-no_lane guest queue lane none = by_owner (owner_of geometry w guest)
     where
@@ -91,14 +91,14 @@ module _ (geometry : Geometry) (w : World) where
       for_owner (owner_of geometry w command.guest) w (λ o.
       post_all (statuses_of lane (group w lane tag) w) command geometry.mediator lane (group w lane tag) o w))) none) refl
 
-act-not_due : (geometry : Geometry) (e : Event) (w : World) → is_due_kind e ≡ false → due geometry e w ≡ false
+pub act-not_due : (geometry : Geometry) (e : Event) (w : World) → is_due_kind e ≡ false → due geometry e w ≡ false
 unfolding due
 act-not_due geometry e w kind = ap (λ (b : Bool). b && is_done (step geometry e w).reply) kind
 
 -- ---- a scene
 
 -- a world that may be there, with the lanes of the side
-abbrev placed : Scene → World → World
+abbrev pub placed : Scene → World → World
 placed s w = record w { lanes = s.served.side.lanes }
 
 -- what is due in it is due there
@@ -109,7 +109,7 @@ placed-due s w e mine on =
     (ap (λ (ls : List Lane). let u : World = record w { lanes = ls } in u) on.lanes)
 
 -- what is not due there is not due
-not-there : (s : Scene) (w : World) (e : Event) → IsMediators e → IsBeside s.served.side s.memory w
+pub not-there : (s : Scene) (w : World) (e : Event) → IsMediators e → IsBeside s.served.side s.memory w
     → due s.served.setup.geometry e (placed s w) ≡ false → due s.served.setup.geometry e w ≡ true → ⊥
 not-there s w e mine on gone is = true-false (due s.served.setup.geometry e w) is (placed-due s w e mine on ∙ gone)
 
@@ -258,7 +258,7 @@ module _ (s : Scene) (guest : ℕ) where
   no_guest-rests none = rests-by (no_guest-admin none) (no_guest-waits none) (no_guest-take none)
 
   -- of a lane that is not there, or of no I/O queue, nothing is taken
-  past-take : (queue lane : ℕ) → length lanes ≤ lane → NotDue s (event.Take guest queue lane)
+  pub past-take : (queue lane : ℕ) → length lanes ≤ lane → NotDue s (event.Take guest queue lane)
   past-take queue lane beyond w on is =
       not-there s w (event.Take guest queue lane) tt on
       (take-no_lane s.served.setup.geometry (placed s w) guest queue lane (slice_get_past lanes lane beyond)) is.1
@@ -272,21 +272,14 @@ module _ (s : Scene) (guest : ℕ) where
   past-waits lane tag beyond job given waits whose =
       none-some job (sym (ap (λ (o : Option Lane). job_in lane tag (tag_in o tag)) (slice_get_past lanes lane beyond)) ∙ waits.taken)
 
-  -- and one that is there, where nothing of its commands is left on any lane
-  pub guest-rests : NotDue s (event.Admin guest) → ((lane : ℕ) → lane < length lanes → NoneWaits s guest lane × NoneTakes s guest lane)
-      → Rests (scope.Guest guest) s
-  guest-rests no_admin none = rests-by no_admin waits takes
+  -- and one that is there, where nothing of its queues is due, and none of its commands waits on any lane
+  pub guest-rests : QueuesRest s guest → ((lane : ℕ) → lane < length lanes → NoneWaits s guest lane) → Rests (scope.Guest guest) s
+  guest-rests queues none = rests-by queues.admin waits queues.takes
     where
       waits : (lane tag : ℕ) → NoneWaitsAt s guest lane tag
       waits lane tag = elim (cases_lt lane (length lanes)) [
-        | inl below ↦ (none lane below).0 tag
+        | inl below ↦ none lane below tag
         | inr beyond ↦ past-waits lane tag beyond
-      ]
-
-      takes : (queue lane : ℕ) → NotDue s (event.Take guest queue lane)
-      takes queue lane = elim (cases_lt lane (length lanes)) [
-        | inl below ↦ (none lane below).1 queue
-        | inr beyond ↦ past-take queue lane beyond
       ]
 
 -- ---- tags of a lane

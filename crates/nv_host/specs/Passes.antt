@@ -32,9 +32,14 @@ NoneWaitsAt s guest lane tag = (job : Job) (given : Guest) → Waits s lane tag 
 abbrev pub NoneWaits : Scene → (guest lane : ℕ) → Type 0
 NoneWaits s guest lane = (tag : ℕ) → NoneWaitsAt s guest lane tag
 
--- none of its commands may be taken on that lane
-abbrev pub NoneTakes : Scene → (guest lane : ℕ) → Type 0
-NoneTakes s guest lane = (queue : ℕ) → NotDue s (event.Take guest queue lane)
+-- of a guest's queues nothing is due
+pub record QueuesRest (s : Scene) (guest : ℕ) : Type 0 where
+  pub admin : NotDue s (event.Admin guest)
+  pub takes : (queue lane : ℕ) → NotDue s (event.Take guest queue lane)
+
+-- no command at all waits for its plan by that tag
+abbrev pub NothingWaitsAt : Scene → (lane tag : ℕ) → Type 0
+NothingWaitsAt s lane tag = (guest : ℕ) → NoneWaitsAt s guest lane tag
 
 -- no command of a lane may be posted to its guest
 abbrev pub NonePosts : Scene → (lane : ℕ) → Type 0

@@ -45,8 +45,8 @@ impl HostMediator {
         }
     }
 
-    // Whether a guest's admin queue has something to do.
-    fn admin_due(&self, guest: u8) -> bool
+    /// Whether a guest's admin queue has something to do.
+    pub(crate) fn admin_due(&self, guest: u8) -> bool
         ensures { (memory : List ℕ) (w : World) → IsBeside self.now.side memory w → result ≡ due self.now.setup.geometry (Event.Admin guest) w }
     {
         self.front.admin_due(&self.layout, guest)
@@ -71,8 +71,8 @@ impl HostMediator {
         self.front.reap_due(&self.layout, lane, memory)
     }
 
-    // Whether all tags of the command that goes by a tag have ended, and it may be completed or runs out.
-    fn post_due(&self, lane: u8, tag: u8) -> bool
+    /// Whether all tags of the command that goes by a tag have ended, and it may be completed or runs out.
+    pub(crate) fn post_due(&self, lane: u8, tag: u8) -> bool
         ensures { (memory : List ℕ) (w : World) → IsBeside self.now.side memory w → result ≡ due self.now.setup.geometry (Event.Post lane tag) w }
     {
         self.front.post_due(&self.layout, lane, tag)

@@ -36,6 +36,7 @@ mod interrupts;
 mod planning;
 mod rings;
 mod taking;
+mod waiting;
 mod worked;
 mod working;
 

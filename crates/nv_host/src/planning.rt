@@ -16,7 +16,6 @@ use crate::worked::{Scope, Why, Worked};
 use nv_core::Holder;
 use nv_mem::{GuestMap, MemoryCell, NoMemory};
 use nv_model::Reply;
-use nv_model::limits::TAGS;
 use nv_ns::VirtualNs;
 use nv_plan::{Job, Next, Plan, Planned, Planning, ReadDone, make_plan};
 use nv_world_model::Event;
@@ -80,9 +79,9 @@ impl HostMediator {
         ensures setup { self.new.setup ≡ self.old.setup }
         ensures len { length (C.bytes memory.new) ≡ length (C.bytes memory.old) }
     {
-        self.sizes();
         let mut done: u64 = 0;
-        for tag in 0..TAGS {
+        let mut taken = self.front.taken(lane);
+        while let Some(tag) = taken.pop() {
             if done >= turn {
                 return Worked::so_far(done);
             }
@@ -97,8 +96,8 @@ impl HostMediator {
         Worked::so_far(done)
     }
 
-    // The guest's command that goes by a tag, where it waits: what it wants of its lists is read, and its plan is carried out.
-    fn plan<C: MemoryCell>(
+    /// The guest's command that goes by a tag, where it waits: what it wants of its lists is read, and its plan is carried out.
+    pub(crate) fn plan<C: MemoryCell>(
         &mut self,
         alloc: Global,
         guest: u8,

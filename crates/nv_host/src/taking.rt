@@ -1,7 +1,7 @@
 //! A guest's commands, taken from its queues.
 
 ghost use Rattle.std.specs.Prelude.{◌≡◌, ◌<◌, ◌≤◌, ℕ, IsTrue, false, length};
-ghost use Rattle.nv_host.specs.Passes.{IsPass, NoneTakes, NoneWaits};
+ghost use Rattle.nv_host.specs.Passes.{IsPass};
 ghost use Rattle.nv_host.specs.Work.{Leads, NotDue, scene};
 
 use crate::closing::Closed;
@@ -13,9 +13,8 @@ use nv_world_model::Event;
 use std::alloc::Global;
 
 impl HostMediator {
-    /// The guest's commands that wait are planned and handed on, and others are taken. It has `turn` events, and the lists of its last command have as
-    /// many more as `most` allows.
-    pub(crate) fn serve_commands<C: MemoryCell>(
+    /// Takes commands of the guest's queues, and plans them. It has `turn` events, and the lists of its last command have as many more as `most` allows.
+    pub(crate) fn take_queues<C: MemoryCell>(
         &mut self,
         alloc: Global,
         guest: u8,
@@ -27,44 +26,16 @@ impl HostMediator {
         requires within { turn ≤ most }
         requires lent { length (C.bytes memory.old) ≡ self.old.setup.host_bytes }
         ensures pass { let old = scene self.old (C.bytes memory.old) in
-            IsPass (Scope.Guest guest) ((lane : ℕ) → lane < self.old.setup.lanes → NoneWaits old guest lane × NoneTakes old guest lane) most result old
-            (scene self.new (C.bytes memory.new)) }
-        ensures setup { self.new.setup ≡ self.old.setup }
-        ensures len { length (C.bytes memory.new) ≡ length (C.bytes memory.old) }
-    {
-        let planned = self.plan_lanes(alloc, guest, turn, most, memory);
-        if planned.ends(turn) {
-            return planned;
-        }
-        let done = planned.done;
-        let taken = self.take_lanes(alloc, guest, turn - done, most - done, memory);
-        Worked::after(done, taken)
-    }
-
-    // Plans the guest's commands of all lanes that wait.
-    fn plan_lanes<C: MemoryCell>(
-        &mut self,
-        alloc: Global,
-        guest: u8,
-        turn: u64,
-        most: u64,
-        memory: &mut [C],
-    ) -> Worked
-        requires some { 0 < turn }
-        requires within { turn ≤ most }
-        requires lent { length (C.bytes memory.old) ≡ self.old.setup.host_bytes }
-        ensures pass { let old = scene self.old (C.bytes memory.old) in
-            IsPass (Scope.Guest guest) ((lane : ℕ) → lane < self.old.setup.lanes → NoneWaits old guest lane) most result old
-            (scene self.new (C.bytes memory.new)) }
+            IsPass (Scope.Guest guest) ((queue lane : ℕ) → NotDue old (Event.Take guest queue lane)) most result old (scene self.new (C.bytes memory.new)) }
         ensures setup { self.new.setup ≡ self.old.setup }
         ensures len { length (C.bytes memory.new) ≡ length (C.bytes memory.old) }
     {
         let mut done: u64 = 0;
-        for lane in 0..self.lanes() {
+        for queue in 1..=LAST_QUEUE {
             if done >= turn {
                 return Worked::so_far(done);
             }
-            let pass = self.plan_each(alloc, guest, lane, turn - done, most - done, memory);
+            let pass = self.take_from(alloc, guest, queue, turn - done, most - done, memory);
             let stopped = pass.has_stopped();
             let whole = Worked::after(done, pass);
             if stopped {
@@ -75,11 +46,36 @@ impl HostMediator {
         Worked::so_far(done)
     }
 
-    // Takes commands of the guest's for all lanes, and plans them.
+    // Takes commands of a queue of the guest's, and plans them.
+    fn take_from<C: MemoryCell>(
+        &mut self,
+        alloc: Global,
+        guest: u8,
+        queue: u16,
+        turn: u64,
+        most: u64,
+        memory: &mut [C],
+    ) -> Worked
+        requires some { 0 < turn }
+        requires within { turn ≤ most }
+        requires lent { length (C.bytes memory.old) ≡ self.old.setup.host_bytes }
+        ensures pass { let old = scene self.old (C.bytes memory.old) in
+            IsPass (Scope.Guest guest) ((lane : ℕ) → NotDue old (Event.Take guest queue lane)) most result old (scene self.new (C.bytes memory.new)) }
+        ensures setup { self.new.setup ≡ self.old.setup }
+        ensures len { length (C.bytes memory.new) ≡ length (C.bytes memory.old) }
+    {
+        if !self.front.waits(guest, queue) {
+            return Worked::so_far(0);
+        }
+        self.take_lanes(alloc, guest, queue, turn, most, memory)
+    }
+
+    // Takes commands of a queue of the guest's for all lanes, and plans them.
     fn take_lanes<C: MemoryCell>(
         &mut self,
         alloc: Global,
         guest: u8,
+        queue: u16,
         turn: u64,
         most: u64,
         memory: &mut [C],
@@ -88,17 +84,17 @@ impl HostMediator {
         requires within { turn ≤ most }
         requires lent { length (C.bytes memory.old) ≡ self.old.setup.host_bytes }
         ensures pass { let old = scene self.old (C.bytes memory.old) in
-            IsPass (Scope.Guest guest) ((lane : ℕ) → lane < self.old.setup.lanes → NoneTakes old guest lane) most result old
-            (scene self.new (C.bytes memory.new)) }
+            IsPass (Scope.Guest guest) ((lane : ℕ) → NotDue old (Event.Take guest queue lane)) most result old (scene self.new (C.bytes memory.new)) }
         ensures setup { self.new.setup ≡ self.old.setup }
         ensures len { length (C.bytes memory.new) ≡ length (C.bytes memory.old) }
     {
+        self.sizes();
         let mut done: u64 = 0;
         for lane in 0..self.lanes() {
             if done >= turn {
                 return Worked::so_far(done);
             }
-            let pass = self.take_on(alloc, guest, lane, turn - done, most - done, memory);
+            let pass = self.take_on(alloc, guest, queue, lane, turn - done, most - done, memory);
             let stopped = pass.has_stopped();
             let whole = Worked::after(done, pass);
             if stopped {
@@ -109,11 +105,13 @@ impl HostMediator {
         Worked::so_far(done)
     }
 
-    // Takes commands of the guest's for a lane, and plans them.
+    // Takes commands of a queue of the guest's for a lane, where any is left, and plans them.
+    #[inline(always)]
     fn take_on<C: MemoryCell>(
         &mut self,
         alloc: Global,
         guest: u8,
+        queue: u16,
         lane: u8,
         turn: u64,
         most: u64,
@@ -123,11 +121,36 @@ impl HostMediator {
         requires within { turn ≤ most }
         requires lent { length (C.bytes memory.old) ≡ self.old.setup.host_bytes }
         ensures pass { let old = scene self.old (C.bytes memory.old) in
-            IsPass (Scope.Guest guest) (NoneTakes old guest lane) most result old (scene self.new (C.bytes memory.new)) }
+            IsPass (Scope.Guest guest) (NotDue old (Event.Take guest queue lane)) most result old (scene self.new (C.bytes memory.new)) }
         ensures setup { self.new.setup ≡ self.old.setup }
         ensures len { length (C.bytes memory.new) ≡ length (C.bytes memory.old) }
     {
-        let done = self.take_each(alloc, guest, lane, turn, memory);
+        if !self.front.waits(guest, queue) {
+            return Worked::so_far(0);
+        }
+        self.take_there(alloc, guest, queue, lane, turn, most, memory)
+    }
+
+    // The same where some command waits.
+    fn take_there<C: MemoryCell>(
+        &mut self,
+        alloc: Global,
+        guest: u8,
+        queue: u16,
+        lane: u8,
+        turn: u64,
+        most: u64,
+        memory: &mut [C],
+    ) -> Worked
+        requires some { 0 < turn }
+        requires within { turn ≤ most }
+        requires lent { length (C.bytes memory.old) ≡ self.old.setup.host_bytes }
+        ensures pass { let old = scene self.old (C.bytes memory.old) in
+            IsPass (Scope.Guest guest) (NotDue old (Event.Take guest queue lane)) most result old (scene self.new (C.bytes memory.new)) }
+        ensures setup { self.new.setup ≡ self.old.setup }
+        ensures len { length (C.bytes memory.new) ≡ length (C.bytes memory.old) }
+    {
+        let done = self.take_queue(alloc, guest, queue, lane, turn, memory);
         if done == 0 {
             return Worked::so_far(done);
         }
@@ -136,33 +159,6 @@ impl HostMediator {
         }
         let planned = self.plan_each(alloc, guest, lane, turn - done, most - done, memory);
         Worked::after(done, planned)
-    }
-
-    // Takes commands of all queues of the guest's for a lane; how many.
-    fn take_each<C: MemoryCell>(
-        &mut self,
-        alloc: Global,
-        guest: u8,
-        lane: u8,
-        most: u64,
-        memory: &[C],
-    ) -> u64
-        requires some { 0 < most }
-        requires lent { length (C.bytes memory.now) ≡ self.old.setup.host_bytes }
-        ensures leads { Leads (Scope.Guest guest) result (scene self.old (C.bytes memory.now)) (scene self.new (C.bytes memory.now)) }
-        ensures few { result ≤ most }
-        ensures none { result ≡ 0 → NoneTakes (scene self.old (C.bytes memory.now)) guest lane }
-        ensures setup { self.new.setup ≡ self.old.setup }
-    {
-        let mut done: u64 = 0;
-        for queue in 1..=LAST_QUEUE {
-            if done >= most {
-                return done;
-            }
-            let more = self.take_queue(alloc, guest, queue, lane, most - done, memory);
-            done += more;
-        }
-        done
     }
 
     // Takes commands of a queue of the guest's for a lane; how many.

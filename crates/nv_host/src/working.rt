@@ -1,7 +1,7 @@
 //! What is due, carried out.
 
 ghost use Rattle.std.specs.Prelude.{◌≡◌, ◌<◌, ◌≤◌, ℕ, IfOk, IsTrue, OnErr, Some, false, length, slice_get, true};
-ghost use Rattle.nv_host.specs.Passes.{IsPass, NonePosts};
+ghost use Rattle.nv_host.specs.Passes.{IsPass, NonePosts, QueuesRest};
 ghost use Rattle.nv_host.specs.Work.{IsStray, IsWorked, Leads, NotDue, Rests, scene};
 ghost use Rattle.nv_world_model.specs.Area.{tag_count};
 ghost use Rattle.nv_world_model.specs.World.{Lane};
@@ -11,7 +11,6 @@ use crate::worked::{Scope, Why, Worked};
 use nv_core::Stray;
 use nv_mem::MemoryCell;
 use nv_model::Reply;
-use nv_model::limits::{MOST_GUESTS, TAGS};
 use nv_world_model::Event;
 use std::alloc::Global;
 
@@ -24,13 +23,17 @@ impl HostMediator {
     /// Of a lane the drive's completions are read, and the commands that have ended are completed for their guests. Of a guest its admin commands are
     /// carried out; its commands that wait are planned and handed on, and others are taken. A command for whose plan there is no memory is given up.
     ///
-    /// It goes round until nothing is left: all lanes, and then all guests, each of which gets 64 events at most before the next one's turn. The lists of
-    /// a command that was begun are read up to their end, as far as `most` allows, since a plan that is cut off begins again with what was read.
+    /// It goes round until nothing is left: all lanes, the commands that wait for their plans, and then the queues of all guests. These commands together,
+    /// and each guest's queues, get 64 events at most before the next turn. The lists of a command that was begun are read up to their end, as far as `most`
+    /// allows, since a plan that is cut off begins again with what was read.
+    ///
+    /// A round costs what its events cost, and a look at each lane. Tags are looked at where their commands wait or have ended, and guests where a note says that
+    /// something may be due of their queues; the note is made when the guest's controller changes.
     ///
     /// A completion that names no command ends the call ([`Why::Stray`]): the host stops the drive, and closes the lane by [`HostMediator::close`].
     /// Nothing is taken for a lane that was closed. The host then writes its doorbells, from [`HostMediator::tail`] and [`HostMediator::head`].
     ///
-    /// Nothing is kept from call to call. Each begins with the first lane, so whoever asks for few events at a time asks by the scopes in turn.
+    /// Each call begins with the first lane, so whoever asks for few events at a time asks by the scopes in turn.
     pub fn work<C: MemoryCell>(
         &mut self,
         alloc: Global,
@@ -79,7 +82,7 @@ impl HostMediator {
         }
     }
 
-    // One round of all: the lanes, and then the guests.
+    // One round of all: the lanes, the commands that wait for their plans, and then the guests' queues.
     fn serve_all<C: MemoryCell>(&mut self, alloc: Global, most: u64, memory: &mut [C]) -> Worked
         requires some { 0 < most }
         requires lent { length (C.bytes memory.old) ≡ self.old.setup.host_bytes }
@@ -94,6 +97,30 @@ impl HostMediator {
             return lanes;
         }
         let done = lanes.done;
+        let rest = self.serve_all_guests(alloc, most - done, memory);
+        Worked::after(done, rest)
+    }
+
+    // The guests' side of such a round. Commands that wait for their plans have 64 events at most, and the lists of the last as many more as `most` allows.
+    fn serve_all_guests<C: MemoryCell>(
+        &mut self,
+        alloc: Global,
+        most: u64,
+        memory: &mut [C],
+    ) -> Worked
+        requires some { 0 < most }
+        requires lent { length (C.bytes memory.old) ≡ self.old.setup.host_bytes }
+        ensures pass { let old = scene self.old (C.bytes memory.old) in
+            IsPass Scope.All ((guest : ℕ) → guest < 16 → Rests (Scope.Guest guest) old) most result old (scene self.new (C.bytes memory.new)) }
+        ensures setup { self.new.setup ≡ self.old.setup }
+        ensures len { length (C.bytes memory.new) ≡ length (C.bytes memory.old) }
+    {
+        self.sizes();
+        let planned = self.plan_all(alloc, most.min(TURN), most, memory);
+        if planned.ends(most) {
+            return planned;
+        }
+        let done = planned.done;
         let guests = self.serve_guests(alloc, most - done, memory);
         Worked::after(done, guests)
     }
@@ -124,22 +151,23 @@ impl HostMediator {
         Worked::so_far(done)
     }
 
-    // A turn of each guest.
+    // A turn of each guest's queues.
     fn serve_guests<C: MemoryCell>(&mut self, alloc: Global, most: u64, memory: &mut [C]) -> Worked
         requires some { 0 < most }
         requires lent { length (C.bytes memory.old) ≡ self.old.setup.host_bytes }
         ensures pass { let old = scene self.old (C.bytes memory.old) in
-            IsPass Scope.All ((guest : ℕ) → guest < 16 → Rests (Scope.Guest guest) old) most result old (scene self.new (C.bytes memory.new)) }
+            IsPass Scope.All ((guest : ℕ) → guest < 16 → QueuesRest old guest) most result old (scene self.new (C.bytes memory.new)) }
         ensures setup { self.new.setup ≡ self.old.setup }
         ensures len { length (C.bytes memory.new) ≡ length (C.bytes memory.old) }
     {
         let mut done: u64 = 0;
-        for guest in 0..MOST_GUESTS {
+        let mut noted = self.front.noted();
+        while let Some(guest) = noted.pop() {
             if done >= most {
                 return Worked::so_far(done);
             }
             let left = most - done;
-            let pass = self.serve_guest(alloc, guest, left.min(TURN), left, memory);
+            let pass = self.serve_queues(alloc, guest, left.min(TURN), left, memory);
             let stopped = pass.has_stopped();
             let whole = Worked::after(done, pass);
             if stopped {
@@ -151,7 +179,24 @@ impl HostMediator {
     }
 
     // A lane's round: the drive's completions, and then those of its commands for their guests.
+    #[inline(always)]
     fn serve_lane<C: MemoryCell>(&mut self, lane: u8, most: u64, memory: &mut [C]) -> Worked
+        requires some { 0 < most }
+        requires lent { length (C.bytes memory.old) ≡ self.old.setup.host_bytes }
+        ensures pass { let old = scene self.old (C.bytes memory.old) in
+            IsPass (Scope.Lane lane) (Rests (Scope.Lane lane) old) most result old (scene self.new (C.bytes memory.new)) }
+        ensures setup { self.new.setup ≡ self.old.setup }
+        ensures len { length (C.bytes memory.new) ≡ length (C.bytes memory.old) }
+    {
+        if !self.front.has_news(&self.layout, lane, memory) {
+            return Worked::so_far(0);
+        }
+        self.serve_news(lane, most, memory)
+    }
+
+    // The same of a lane where something may be due.
+    #[inline(never)]
+    fn serve_news<C: MemoryCell>(&mut self, lane: u8, most: u64, memory: &mut [C]) -> Worked
         requires some { 0 < most }
         requires lent { length (C.bytes memory.old) ≡ self.old.setup.host_bytes }
         ensures pass { let old = scene self.old (C.bytes memory.old) in
@@ -220,9 +265,9 @@ impl HostMediator {
         ensures setup { self.new.setup ≡ self.old.setup }
         ensures len { length (C.bytes memory.new) ≡ length (C.bytes memory.old) }
     {
-        self.sizes();
         let mut done: u64 = 0;
-        for tag in 0..TAGS {
+        let mut ended = self.front.ended(lane);
+        while let Some(tag) = ended.pop() {
             if done >= most {
                 return Worked::so_far(done);
             }
@@ -241,14 +286,14 @@ impl HostMediator {
         ensures setup { self.new.setup ≡ self.old.setup }
         ensures len { length (C.bytes memory.new) ≡ length (C.bytes memory.old) }
     {
-        if self.due(&Event::Post(lane, tag), memory) {
+        if self.post_due(lane, tag) {
             let _done = self.post(lane, tag, memory);
             return 1;
         }
         0
     }
 
-    // A guest's round: its admin commands, its commands that wait for their plans, and those that may be taken. It has `turn` events, and the lists of its
+    // A guest's round: its commands that wait for their plans, its admin commands, and those that may be taken. It has `turn` events, and the lists of its
     // last command have as many more as `most` allows.
     fn serve_guest<C: MemoryCell>(
         &mut self,
@@ -290,12 +335,66 @@ impl HostMediator {
         ensures len { length (C.bytes memory.new) ≡ length (C.bytes memory.old) }
     {
         self.sizes();
+        let planned = self.plan_lanes(alloc, guest, turn, most, memory);
+        if planned.ends(turn) {
+            return planned;
+        }
+        let done = planned.done;
+        let rest = self.serve_queues(alloc, guest, turn - done, most - done, memory);
+        Worked::after(done, rest)
+    }
+
+    // A turn of a guest's queues. A guest that isn't noted is passed by, and one of whom nothing was due isn't noted any more, unless that may change with
+    // what is in memory.
+    fn serve_queues<C: MemoryCell>(
+        &mut self,
+        alloc: Global,
+        guest: u8,
+        turn: u64,
+        most: u64,
+        memory: &mut [C],
+    ) -> Worked
+        requires some { 0 < turn }
+        requires within { turn ≤ most }
+        requires lent { length (C.bytes memory.old) ≡ self.old.setup.host_bytes }
+        ensures pass { let old = scene self.old (C.bytes memory.old) in
+            IsPass (Scope.Guest guest) (QueuesRest old guest) most result old (scene self.new (C.bytes memory.new)) }
+        ensures setup { self.new.setup ≡ self.old.setup }
+        ensures len { length (C.bytes memory.new) ≡ length (C.bytes memory.old) }
+    {
+        if !self.front.is_noted(guest) {
+            return Worked::so_far(0);
+        }
+        let served = self.serve_noted(alloc, guest, turn, most, memory);
+        if served.is_last() {
+            self.front.settle(guest);
+        }
+        served
+    }
+
+    // The same of a guest that is noted.
+    fn serve_noted<C: MemoryCell>(
+        &mut self,
+        alloc: Global,
+        guest: u8,
+        turn: u64,
+        most: u64,
+        memory: &mut [C],
+    ) -> Worked
+        requires some { 0 < turn }
+        requires within { turn ≤ most }
+        requires lent { length (C.bytes memory.old) ≡ self.old.setup.host_bytes }
+        ensures pass { let old = scene self.old (C.bytes memory.old) in
+            IsPass (Scope.Guest guest) (QueuesRest old guest) most result old (scene self.new (C.bytes memory.new)) }
+        ensures setup { self.new.setup ≡ self.old.setup }
+        ensures len { length (C.bytes memory.new) ≡ length (C.bytes memory.old) }
+    {
         let first = self.admin_each(guest, turn, memory);
         if first.ends(turn) {
             return first;
         }
         let done = first.done;
-        let rest = self.serve_commands(alloc, guest, turn - done, most - done, memory);
+        let rest = self.take_queues(alloc, guest, turn - done, most - done, memory);
         Worked::after(done, rest)
     }
 
@@ -329,7 +428,7 @@ impl HostMediator {
         ensures setup { self.new.setup ≡ self.old.setup }
         ensures len { length (C.bytes memory.new) ≡ length (C.bytes memory.old) }
     {
-        if self.due(&Event::Admin(guest), memory) {
+        if self.admin_due(guest) {
             let _done = self.admin(guest, memory);
             return true;
         }

@@ -1,6 +1,6 @@
 -- Tags as they are kept: states, claims and leaders, side by side; and for each tag that may lead, the tags that follow it, as a number with a bit
 -- for each. No contract of a public function names this.
-use Rattle.std.specs.Prelude.{◌≡◌, ℕ, ◌<◌, ◌==◌, ◌&&◌, not, Bool, if◌then◌else◌, List, [], ◌∷◌, length, slice_index, slice_index_or}
+use Rattle.std.specs.Prelude.{◌≡◌, ℕ, ◌<◌, ◌==◌, ◌&&◌, not, Bool, true, false, if◌then◌else◌, List, [], ◌∷◌, length, slice_index, slice_index_or}
 use Rattle.std.specs.Int.{bit_at}
 use Rattle.std.specs.List.{filter, range_with_len}
 use Rattle.nv_entry.specs.Status.{bit}
@@ -34,6 +34,23 @@ abbrev pub is_behind : List TagState → (leaders : List ℕ) → (leader tag : 
 is_behind states leaders leader tag =
     not (is_free_at states tag) && (slice_index leaders tag == leader && not (tag == leader))
 
+-- whether the command of the tag of that number was taken, and no more; whether it has ended
+abbrev pub is_taken_state : TagState → Bool
+is_taken_state state.Free = false
+is_taken_state state.Taken = true
+is_taken_state state.Flying = false
+is_taken_state (state.Ended st) = false
+
+abbrev pub is_ended_state : TagState → Bool
+is_ended_state state.Free = false
+is_ended_state state.Taken = false
+is_ended_state state.Flying = false
+is_ended_state (state.Ended st) = true
+
+-- the bits of a mask are set exactly where a test of the states holds
+abbrev pub IsMask : (test : TagState → Bool) → List TagState → (mask : ℕ) → Type 0
+IsMask test states mask = (tag : ℕ) → tag < tag_count → bit_at mask tag ≡ bit (test (slice_index_or states tag state.Free))
+
 -- a mask that has that tag, too, or not any more
 abbrev pub IsWith : (before tag now : ℕ) → Type 0
 IsWith before tag now = (t : ℕ) → t < tag_count → bit_at now t ≡ (if t == tag then 1 else bit_at before t)
@@ -52,3 +69,8 @@ pub record AreKept (states : List TagState) (claims : List Claim) (leaders group
   -- a bit is set exactly where the tag follows that leader
   pub behind : (leader tag : ℕ) → leader < tag_count → tag < tag_count
       → bit_at (slice_index groups leader) tag ≡ bit (is_behind states leaders leader tag)
+
+-- the masks of the tags whose commands were taken, and of those whose commands have ended
+pub record AreMarked (states : List TagState) (taken ended : ℕ) : Type 0 where
+  pub taken_are : IsMask is_taken_state states taken
+  pub ended_are : IsMask is_ended_state states ended

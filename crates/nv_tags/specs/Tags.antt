@@ -26,6 +26,20 @@ abbrev pub is_free : Slot → Bool
 is_free Free = true
 is_free (Used command point) = false
 
+-- whether its command was taken, and no more
+abbrev pub is_taken : Slot → Bool
+is_taken Free = false
+is_taken (Used command Taken) = true
+is_taken (Used command Flying) = false
+is_taken (Used command (Ended st)) = false
+
+-- whether its command has ended
+abbrev pub is_ended : Slot → Bool
+is_ended Free = false
+is_ended (Used command Taken) = false
+is_ended (Used command Flying) = false
+is_ended (Used command (Ended st)) = true
+
 -- the lowest free tag
 abbrev pub free_slot : List Slot → Option ℕ
 free_slot slots = position is_free slots

@@ -6,7 +6,7 @@ ghost use Rattle.nv_tags.specs.Kept.{IsWith, IsWithout, tags_in};
 
 use std::marker::Model;
 
-/// Some tags of a lane, lowest first. A contract sees the list of their numbers.
+/// Some tags of a lane, or other numbers below 64, lowest first. A contract sees the list of them.
 #[derive(Drop)]
 pub struct Group {
     mask: u64,
@@ -22,11 +22,18 @@ impl Model for Group {
 }
 
 impl Group {
-    /// The tags whose bits are set.
-    pub(crate) fn of(mask: u64) -> Self
+    /// The numbers whose bits are set.
+    pub fn of(mask: u64) -> Self
         ensures { result ≡ tags_in mask }
     {
         Group { mask }
+    }
+
+    /// No tag.
+    pub fn none() -> Self
+        ensures { result ≡ [] }
+    {
+        Group { mask: 0 }
     }
 
     /// Takes the lowest tag; `None` where none is left.

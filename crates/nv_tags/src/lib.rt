@@ -9,7 +9,8 @@
 //! once. A command of one tag is its own leader, and costs nothing for it. Nothing here takes memory.
 //!
 //! States and commands of tags are in separate arrays, so that the search for a free tag reads states alone. The further tags of a command are a
-//! mask of 64 bits with its leader, so no search is needed for them. It is a crate of its own because it knows nothing of plans: transcripts, plans
+//! mask of 64 bits with its leader, so no search is needed for them. The tags whose commands were taken, and no more, and those whose commands have ended
+//! are a mask each, too ([`Tags::taken`], [`Tags::ended`]): whoever plans or completes commands looks at these tags alone. It is a crate of its own because it knows nothing of plans: transcripts, plans
 //! and slots of rings are kept in `nv_core`.
 #![tactic(auto)]
 

@@ -4,7 +4,7 @@ ghost use Rattle.std.specs.Prelude.{◌≡◌, ◌≢◌, ◌<◌, ◌⊎◌, �
 ghost use Rattle.std.specs.List.{position};
 ghost use Rattle.nv_world_model.specs.Area.{tag_count};
 ghost use Rattle.nv_tags.specs.Tags.{Ended, Flying, Free, Taken, Used, claimed, command_in, command_of, free_slot, group, is_free_state};
-ghost use Rattle.nv_tags.specs.Tags.{Leads, leader_in, leader_of, released, slot_at, state_at, taken_by, with_point};
+ghost use Rattle.nv_tags.specs.Tags.{Leads, is_ended, is_taken, leader_in, leader_of, released, slot_at, state_at, tags_where, taken_by, with_point};
 ghost use Rattle.nv_tags.specs.declared.state.TagState.TheVariants as state;
 
 use crate::claim::Claim;
@@ -24,18 +24,22 @@ pub struct Tags {
     leaders: [u8; TAG_COUNT],
     // for each tag, those that follow it in the group that goes by it, a bit for each
     groups: [u64; TAG_COUNT],
+    // the tags whose commands were taken, and no more, a bit for each
+    taken: u64,
+    // the tags whose commands have ended, a bit for each
+    ended: u64,
 }
 
 impl Model for Tags {
     ghost use Rattle.std.specs.Prelude.{List};
-    ghost use Rattle.nv_tags.specs.Kept.{AreKept, slots_of};
+    ghost use Rattle.nv_tags.specs.Kept.{AreKept, AreMarked, slots_of};
     ghost use Rattle.nv_tags.specs.Tags.{Slot};
 
     ghost Value = { List Slot };
 
     ghost view = { λ t. slots_of t.states t.claims t.leaders };
 
-    ghost invariant = { λ t. AreKept t.states t.claims t.leaders t.groups };
+    ghost invariant = { λ t. AreKept t.states t.claims t.leaders t.groups × AreMarked t.states t.taken t.ended };
 }
 
 // the place of the first free state
@@ -60,6 +64,8 @@ impl Tags {
             claims: [nobodys; TAG_COUNT],
             leaders: [0; TAG_COUNT],
             groups: [0; TAG_COUNT],
+            taken: 0,
+            ended: 0,
         }
     }
 
@@ -88,6 +94,7 @@ impl Tags {
         self.states[tag] = TagState::Taken;
         self.claims[tag] = claim;
         self.leaders[tag] = tag as u8;
+        self.taken = with(self.taken, tag as u8);
         Some(tag as u8)
     }
 
@@ -116,6 +123,7 @@ impl Tags {
             leader,
         );
         self.groups[usize::from(leader)] |= without(mask, leader);
+        self.taken |= mask;
         Some(leader)
     }
 
@@ -146,6 +154,20 @@ impl Tags {
         Group::of(with(self.groups[usize::from(leader)], leader))
     }
 
+    /// The tags whose commands were taken, and no more, in order.
+    pub fn taken(&self) -> Group
+        ensures { result ≡ tags_where is_taken self.now }
+    {
+        Group::of(self.taken)
+    }
+
+    /// The tags whose commands have ended, in order.
+    pub fn ended(&self) -> Group
+        ensures { result ≡ tags_where is_ended self.now }
+    {
+        Group::of(self.ended)
+    }
+
     /// Where the tag, 0 to 63, is.
     pub fn state(&self, tag: u8) -> TagState
         requires there { tag < tag_count }
@@ -160,6 +182,7 @@ impl Tags {
         ensures { self.new ≡ with_point Flying tag self.old }
     {
         self.states[usize::from(tag)] = TagState::Flying;
+        self.taken = without(self.taken, tag);
     }
 
     /// The command of the tag ends with this status. It was taken, or handed to the physical controller.
@@ -168,6 +191,8 @@ impl Tags {
         ensures { self.new ≡ with_point (Ended status) tag self.old }
     {
         self.states[usize::from(tag)] = TagState::Ended(status);
+        self.taken = without(self.taken, tag);
+        self.ended = with(self.ended, tag);
     }
 
     /// The tag becomes free, and no other. It was not.
@@ -178,6 +203,8 @@ impl Tags {
         let leader = usize::from(self.leaders[usize::from(tag)]);
         self.groups[leader] = without(self.groups[leader], tag);
         self.states[usize::from(tag)] = TagState::Free;
+        self.taken = without(self.taken, tag);
+        self.ended = without(self.ended, tag);
     }
 
     /// The tags of a command that goes by this tag become free, all at once.
@@ -186,8 +213,11 @@ impl Tags {
         ensures { self.new ≡ released leader self.old }
     {
         let at = usize::from(leader);
+        let freed = with(self.groups[at], leader);
         self.states[at] = TagState::Free;
         free_each(&mut self.states, Group::of(self.groups[at]));
         self.groups[at] = 0;
+        self.taken &= !freed;
+        self.ended &= !freed;
     }
 }

@@ -1,4 +1,6 @@
-use Rattle.std.proofs.Common.{◌≤◌, ◌<◌, length, refl, subst, arith, ◌≡◌, ℕ, List, ap, set}
+use Rattle.std.proofs.Common.{◌≤◌, ◌<◌, length, refl, subst, arith, ◌≡◌, ℕ, List, ap, set, sym}
+use Rattle.nv_core.specs.Noted.{AreNoted}
+use Rattle.nv_core.proofs.Notes.{noted-set}
 use Rattle.nv_core.proofs.Placed.{act-done, act-nobody, has-controller, made-for}
 use Rattle.nv_core.specs.State.{State}
 use Rattle.nv_core.specs.Front.{IsSideOf, Side}
@@ -52,3 +54,8 @@ act_in_seat-requires g c =
     let of : IsKeptOf c.args.layout.now old = of-side c.args.layout.now c.args.self.now m w is c.requires in
     made-for c.args.layout.now s old c.args.guest c.in-Some.given.now c.in-Some.given.now.memory_map same of
     c.in-Some.ensures refl
+
+pub invariant_of-self-2 : goal.invariant_of-self-2
+invariant_of-self-2 g c =
+    subst (λ (k : ℕ). AreNoted (set c.self.inside.controllers.items k c.act_in_seat.new.vctl) c.noted-self-inside.result) (sym c.from-number.ensures)
+    (noted-set c.self.inside.controllers.items c.self.inside.noted c.args.guest c.noted-self-inside.result c.act_in_seat.new.vctl c.self.invariant c.noted-self-inside.ensures)

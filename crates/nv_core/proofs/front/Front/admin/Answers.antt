@@ -1,4 +1,6 @@
-use Rattle.std.proofs.Common.{◌≤◌, ◌<◌, ◌∙◌, ap, length, subst, arith, ◌≡◌, ℕ, List, refl, set}
+use Rattle.std.proofs.Common.{◌≤◌, ◌<◌, ◌∙◌, ap, length, subst, arith, ◌≡◌, ℕ, List, refl, set, sym}
+use Rattle.nv_core.specs.Noted.{AreNoted}
+use Rattle.nv_core.proofs.Notes.{noted-set}
 use Rattle.nv_core.proofs.Placed.{admin-done, admin-nobody, has-controller, in-place}
 use Rattle.nv_core.specs.Seat.{told_by}
 use Rattle.nv_core.specs.State.{State}
@@ -56,3 +58,8 @@ returns-clause-step g c = λ w is.
     same c.from-number.ensures below c.index_mut-vctl.ensures.value c.in-Some.ensures c.map.ensures
     (c.blocks-block_count.ensures.value ∙ ap blocks_in c.ns.ensures)
     (c.reply_of.ensures ∙ ap told_by c.admin.ensures.reply, (c.admin.ensures.controller, c.admin.ensures.host)) c.admin.ensures.len)
+
+pub invariant_of-self : goal.invariant_of-self
+invariant_of-self g c =
+    subst (λ (k : ℕ). AreNoted (set c.self.inside.controllers.items k c.admin.new.vctl) c.noted-self-inside.result) (sym c.from-number.ensures)
+    (noted-set c.self.inside.controllers.items c.self.inside.noted c.args.guest c.noted-self-inside.result c.admin.new.vctl c.self.invariant c.noted-self-inside.ensures)

@@ -1,4 +1,6 @@
-use Rattle.std.proofs.Common.{◌∙◌, ◌<◌, ◌^◌, Some, length, ap, sym, arith, ◌≡◌, ℕ, List, refl, set}
+use Rattle.std.proofs.Common.{◌∙◌, ◌<◌, ◌^◌, Some, length, ap, sym, arith, ◌≡◌, ℕ, List, refl, set, subst}
+use Rattle.nv_core.specs.Noted.{AreNoted}
+use Rattle.nv_core.proofs.Notes.{noted-set}
 use Rattle.nv_core.proofs.GroupWorlds.{ended-below, ended-here, ended-is, ended-led, ended-there}
 use Rattle.nv_core.proofs.Placed.{made-for}
 use Rattle.nv_core.proofs.Posts.{has-controller, may-settle, post-done, post-early, post-held, post-nobody, post-not, post-parts, post-placed}
@@ -281,3 +283,13 @@ returns-in-Done-clause-step g c = λ w is.
     c.mediator.result c.map.result.now c.outcome.result c.in-Some-outcome.status c.mediator.ensures c.map.ensures c.outcome.ensures c.in-Some-outcome.is
     c.settle.result (g.C.MemoryCell.bytes c.settle.new.host) c.settle.new.vctl c.settle.ensures.len c.settle.ensures.settled
     c.release.new.self (c.release.ensures ∙ ap (λ (l : Lane). tags_changed (group_in (Some l) c.args.tag) Free l) (sym one)) c.in-Done.is)
+
+pub invariant_of-self : goal.invariant_of-self
+invariant_of-self g c =
+    subst (λ (k : ℕ). AreNoted (set c.self.inside.controllers.items k c.settle.new.vctl) c.noted-self-inside.result) (sym c.from.ensures)
+    (noted-set c.self.inside.controllers.items c.self.inside.noted c.ended.result.now.guest c.noted-self-inside.result c.settle.new.vctl c.self.invariant c.noted-self-inside.ensures)
+
+pub invariant_of-self-in-Done : goal.invariant_of-self-in-Done
+invariant_of-self-in-Done g c =
+    subst (λ (k : ℕ). AreNoted (set c.self.inside.controllers.items k c.settle.new.vctl) c.noted-self-inside.result) (sym c.from.ensures)
+    (noted-set c.self.inside.controllers.items c.self.inside.noted c.ended.result.now.guest c.noted-self-inside.result c.settle.new.vctl c.self.invariant c.noted-self-inside.ensures)

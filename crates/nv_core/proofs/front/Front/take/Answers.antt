@@ -1,4 +1,6 @@
 use Rattle.std.proofs.Common.{◌≤◌, ◌<◌, ◌∙◌, length, subst, sym, refl, arith, ◌≡◌, ℕ, List, ap, set}
+use Rattle.nv_core.specs.Noted.{AreNoted}
+use Rattle.nv_core.proofs.Notes.{noted-set}
 use Rattle.nv_core.proofs.Placed.{has-controller, in-place, made-for}
 use Rattle.nv_core.proofs.GroupWorlds.{looked-up}
 use Rattle.nv_core.proofs.Takes.{take-done, take-no_lane, take-no_queue, take-nobody}
@@ -105,3 +107,8 @@ take_front-requires-clause-host g c =
     let of : IsKeptOf c.args.layout.now old = of-side c.args.layout.now c.args.self.now m w is c.requires.lent in
     made-for c.args.layout.now s old c.args.guest c.in-Some.given.now c.in-Some.given.now.memory_map same of
     c.in-Some.ensures refl
+
+pub invariant_of-self : goal.invariant_of-self
+invariant_of-self g c =
+    subst (λ (k : ℕ). AreNoted (set c.self.inside.controllers.items k c.take_front.new.vctl) c.noted-self-inside.result) (sym c.from-number.ensures)
+    (noted-set c.self.inside.controllers.items c.self.inside.noted c.args.guest c.noted-self-inside.result c.take_front.new.vctl c.self.invariant c.noted-self-inside.ensures)

@@ -1,5 +1,5 @@
 use Rattle.std.proofs.Common.{◌≡◌, ℕ, length}
-use Rattle.nv_host.proofs.Rounds.{IsRound}
+use Rattle.nv_host.proofs.Searches.{IsSearch}
 use Rattle.nv_host.specs.Passes.{NoneWaitsAt}
 use Rattle.nv_host.specs.Work.{Scene, scene}
 use Rattle.nv_host.specs.declared.worked.Scope.TheVariants as scope
@@ -8,7 +8,10 @@ use Rattle.nv_host.proofs.host_mediator.HostMediator.plan_each.Given as goal
 abbrev pub invariant-loop-tag : goal.invariant-loop-tag
 invariant-loop-tag g l =
     record {
-      round : IsRound (scope.Guest l.guest) l.most l.done l.tag (λ (s : Scene) (k : ℕ). NoneWaitsAt s l.guest l.lane k) (scene l.fn.self (g.C.MemoryCell.bytes l.fn.memory)) (scene l.self (g.C.MemoryCell.bytes l.memory));
+      search : IsSearch (scope.Guest l.guest) l.most l.done l.taken (λ (s : Scene) (k : ℕ). NoneWaitsAt s l.guest l.lane k) (scene l.fn.self (g.C.MemoryCell.bytes l.fn.memory)) (scene l.self (g.C.MemoryCell.bytes l.memory));
       setup : l.self.setup ≡ l.fn.self.setup;
       len : length (g.C.MemoryCell.bytes l.memory) ≡ length (g.C.MemoryCell.bytes l.fn.memory);
     }
+
+abbrev pub decreases-loop-tag : goal.decreases-loop-tag
+decreases-loop-tag g l = length l.taken

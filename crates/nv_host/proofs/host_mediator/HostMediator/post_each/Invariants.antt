@@ -1,14 +1,17 @@
 use Rattle.std.proofs.Common.{◌≡◌, ℕ, length}
-use Rattle.nv_host.proofs.Rounds.{IsRound}
+use Rattle.nv_host.proofs.Searches.{IsSearch}
+use Rattle.nv_world_model.specs.declared.event.Event.TheVariants as event
 use Rattle.nv_host.specs.Work.{NotDue, Scene, scene}
 use Rattle.nv_host.specs.declared.worked.Scope.TheVariants as scope
-use Rattle.nv_world_model.specs.declared.event.Event.TheVariants as event
 use Rattle.nv_host.proofs.host_mediator.HostMediator.post_each.Given as goal
 
 abbrev pub invariant-loop-tag : goal.invariant-loop-tag
 invariant-loop-tag g l =
     record {
-      round : IsRound (scope.Lane l.lane) l.most l.done l.tag (λ (s : Scene) (k : ℕ). NotDue s (event.Post l.lane k)) (scene l.fn.self (g.C.MemoryCell.bytes l.fn.memory)) (scene l.self (g.C.MemoryCell.bytes l.memory));
+      search : IsSearch (scope.Lane l.lane) l.most l.done l.ended (λ (s : Scene) (k : ℕ). NotDue s (event.Post l.lane k)) (scene l.fn.self (g.C.MemoryCell.bytes l.fn.memory)) (scene l.self (g.C.MemoryCell.bytes l.memory));
       setup : l.self.setup ≡ l.fn.self.setup;
       len : length (g.C.MemoryCell.bytes l.memory) ≡ length (g.C.MemoryCell.bytes l.fn.memory);
     }
+
+abbrev pub decreases-loop-tag : goal.decreases-loop-tag
+decreases-loop-tag g l = length l.ended

@@ -1,32 +1,25 @@
-use Rattle.std.proofs.Common.{◌≡◌}
-use Rattle.nv_host.proofs.Rounds.{after-fits, first-leads, two-both, two-first}
-use Rattle.nv_host.proofs.Rests.{lane-rests}
-use Rattle.nv_host.specs.Passes.{NonePosts}
-use Rattle.nv_host.specs.Work.{NotDue, Scene, scene}
+use Rattle.std.proofs.Common.{◌≡◌, ℕ, List, [], false, refl, slice_get, subst}
+use Rattle.nv_core.specs.Reaping.{waits_in}
+use Rattle.nv_core.specs.Tags.{ended_in}
+use Rattle.nv_host.proofs.Calls.{served-lent}
+use Rattle.nv_host.proofs.Made.{made}
+use Rattle.nv_host.proofs.Marked.{no-news}
+use Rattle.nv_host.proofs.Rounds.{pass-none}
+use Rattle.nv_host.specs.Served.{Served}
+use Rattle.nv_host.specs.Work.{Rests, Scene, scene}
 use Rattle.nv_host.specs.declared.worked.Scope.TheVariants as scope
-use Rattle.nv_world_model.specs.declared.event.Event.TheVariants as event
 use Rattle.nv_host.proofs.host_mediator.HostMediator.serve_lane.Goals as goal
 
-pub returns-then-ends-clause-pass : goal.returns-then-ends-clause-pass
-returns-then-ends-clause-pass g c =
-    let a : Scene = scene c.args.self.now (g.C.MemoryCell.bytes c.args.memory.now) in
-    let b : Scene = scene c.reap_each-read.new.self (g.C.MemoryCell.bytes c.args.memory.now) in
-    two-first (scope.Lane c.args.lane) _ (NotDue a (event.Reap c.args.lane)) c.args.most c.reap_each-read.result a b (c.reap_each-read.ensures.pass) c.args.most (c.ends.ensures.yes c.if-ends.true) c.requires.some
+pub has_news-requires : goal.has_news-requires
+has_news-requires g c =
+    let h = made c.self.inside.host_bytes c.self.inside.lanes c.self.inside.layout c.self.inside.front c.self.inside.closed.items in
+    served-lent h c.args.self.now c.self.view_is c.self.invariant (g.C.MemoryCell.bytes c.args.memory.now) c.requires.lent
 
-pub after-requires : goal.after-requires
-after-requires g c =
-    let a : Scene = scene c.args.self.now (g.C.MemoryCell.bytes c.args.memory.now) in
-    let b : Scene = scene c.reap_each-read.new.self (g.C.MemoryCell.bytes c.args.memory.now) in
-    let n : Scene = scene c.post_each-posted.new.self (g.C.MemoryCell.bytes c.post_each-posted.new.memory) in
-    let on = c.ends.ensures.no c.if-ends.false in
-    after-fits (scope.Lane c.args.lane) c.args.most c.reap_each-read.result.done (c.post_each-posted.result.done ≡ 0 → NonePosts b c.args.lane) c.post_each-posted.result b n c.post_each-posted.ensures.pass
-    (first-leads (scope.Lane c.args.lane) (NotDue a (event.Reap c.args.lane)) (NotDue a (event.Reap c.args.lane)) c.args.most c.reap_each-read.result a b (c.reap_each-read.ensures.pass) on.0).1 c.ranges.most.fits
-
-pub returns-clause-pass : goal.returns-clause-pass
-returns-clause-pass g c =
-    let a : Scene = scene c.args.self.now (g.C.MemoryCell.bytes c.args.memory.now) in
-    let b : Scene = scene c.reap_each-read.new.self (g.C.MemoryCell.bytes c.args.memory.now) in
-    let n : Scene = scene c.post_each-posted.new.self (g.C.MemoryCell.bytes c.post_each-posted.new.memory) in
-    let on = c.ends.ensures.no c.if-ends.false in
-    two-both (scope.Lane c.args.lane) _ (NotDue a (event.Reap c.args.lane)) c.args.most c.reap_each-read.result a b (c.reap_each-read.ensures.pass) (λ (b : Scene). NonePosts b c.args.lane) c.post_each-posted.result c.after.result n on.0 c.after.ensures c.post_each-posted.ensures.pass
-    (λ no_reap none_posts. lane-rests a c.args.lane no_reap none_posts)
+pub returns-then-not-has_news-clause-pass : goal.returns-then-not-has_news-clause-pass
+returns-then-not-has_news-clause-pass g c =
+    let memory : List ℕ = g.C.MemoryCell.bytes c.args.memory.now in
+    let a : Scene = scene c.args.self.now memory in
+    pass-none (scope.Lane c.args.lane) (Rests (scope.Lane c.args.lane) a) c.args.most c.so_far.result a a c.so_far.ensures refl
+    (no-news a c.args.lane
+    (subst (λ (x : Served). waits_in x.setup.geometry c.args.lane (slice_get x.side.lanes c.args.lane) memory ≡ false) c.self.view_is (c.has_news.ensures.waits c.if-not-has_news.true))
+    (subst (λ (x : Served). ended_in (slice_get x.side.lanes c.args.lane) ≡ []) c.self.view_is (c.has_news.ensures.ended c.if-not-has_news.true)))

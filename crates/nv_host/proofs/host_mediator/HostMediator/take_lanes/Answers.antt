@@ -1,7 +1,9 @@
-use Rattle.std.proofs.Common.{◌≡◌, ◌∙◌, ℕ, arith, refl}
+use Rattle.std.proofs.Common.{◌≡◌, ◌∙◌, ℕ, arith, inl, inr, length, refl}
+use Rattle.std.proofs.lemmas.Bool.{cases_lt}
+use Rattle.nv_host.proofs.Rests.{past-take}
 use Rattle.nv_host.proofs.Rounds.{after-fits, round-end, round-full, round-none, round-on, round-stop}
-use Rattle.nv_host.specs.Passes.{NoneTakes}
-use Rattle.nv_host.specs.Work.{Scene, scene}
+use Rattle.nv_world_model.specs.declared.event.Event.TheVariants as event
+use Rattle.nv_host.specs.Work.{NotDue, Scene, scene}
 use Rattle.nv_host.specs.declared.worked.Scope.TheVariants as scope
 use Rattle.nv_host.specs.declared.worked.Worked.{Worked}
 use Rattle.nv_host.proofs.host_mediator.HostMediator.take_lanes.Goals as goal
@@ -9,7 +11,7 @@ use Rattle.nv_host.proofs.host_mediator.HostMediator.take_lanes.Goals as goal
 pub loop-lane-init : goal.loop-lane-init
 loop-lane-init g c =
     let a : Scene = scene c.args.self.now (g.C.MemoryCell.bytes c.args.memory.now) in
-    record { round = round-none (scope.Guest c.args.guest) c.args.most (λ (s : Scene) (k : ℕ). NoneTakes s c.args.guest k) a; setup = refl; len = refl }
+    record { round = round-none (scope.Guest c.args.guest) c.args.most (λ (s : Scene) (k : ℕ). NotDue s (event.Take c.args.guest c.args.queue k)) a; setup = refl; len = refl }
 
 pub after-whole-requires : goal.after-whole-requires
 after-whole-requires g c =
@@ -17,13 +19,13 @@ after-whole-requires g c =
     let b : Scene = scene c.loop-lane.self (g.C.MemoryCell.bytes c.loop-lane.memory) in
     let n : Scene = scene c.take_on-pass.new.self (g.C.MemoryCell.bytes c.take_on-pass.new.memory) in
     let w : Worked = c.take_on-pass.result in
-    after-fits (scope.Guest c.args.guest) c.args.most c.loop-lane.done (w.done ≡ 0 → ((λ (s : Scene) (k : ℕ). NoneTakes s c.args.guest k)) b c.loop-lane.lane) w b n (c.take_on-pass.ensures.pass) c.loop-lane.invariant.round.few c.ranges.most.fits
+    after-fits (scope.Guest c.args.guest) c.args.most c.loop-lane.done (w.done ≡ 0 → (λ (s : Scene) (k : ℕ). NotDue s (event.Take c.args.guest c.args.queue k)) b c.loop-lane.lane) w b n c.take_on-pass.ensures.pass c.loop-lane.invariant.round.few c.ranges.most.fits
 
 pub returns-then-done-turn-clause-pass : goal.returns-then-done-turn-clause-pass
 returns-then-done-turn-clause-pass g c =
     let a : Scene = scene c.args.self.now (g.C.MemoryCell.bytes c.args.memory.now) in
     let b : Scene = scene c.loop-lane.self (g.C.MemoryCell.bytes c.loop-lane.memory) in
-    round-full (scope.Guest c.args.guest) c.args.most c.loop-lane.done c.loop-lane.lane (λ (s : Scene) (k : ℕ). NoneTakes s c.args.guest k) a b c.loop-lane.invariant.round _ c.args.turn c.so_far.result c.so_far.ensures c.if-done-turn.true c.requires.some
+    round-full (scope.Guest c.args.guest) c.args.most c.loop-lane.done c.loop-lane.lane (λ (s : Scene) (k : ℕ). NotDue s (event.Take c.args.guest c.args.queue k)) a b c.loop-lane.invariant.round _ c.args.turn c.so_far.result c.so_far.ensures c.if-done-turn.true c.requires.some
 
 pub returns-then-stopped-clause-pass : goal.returns-then-stopped-clause-pass
 returns-then-stopped-clause-pass g c =
@@ -31,7 +33,7 @@ returns-then-stopped-clause-pass g c =
     let b : Scene = scene c.loop-lane.self (g.C.MemoryCell.bytes c.loop-lane.memory) in
     let n : Scene = scene c.take_on-pass.new.self (g.C.MemoryCell.bytes c.take_on-pass.new.memory) in
     let w : Worked = c.take_on-pass.result in
-    round-stop (scope.Guest c.args.guest) c.args.most c.loop-lane.done c.loop-lane.lane (λ (s : Scene) (k : ℕ). NoneTakes s c.args.guest k) a b n c.loop-lane.invariant.round _ w c.after-whole.result c.after-whole.ensures (c.take_on-pass.ensures.pass) (c.has_stopped-stopped.ensures.yes c.if-stopped.true)
+    round-stop (scope.Guest c.args.guest) c.args.most c.loop-lane.done c.loop-lane.lane (λ (s : Scene) (k : ℕ). NotDue s (event.Take c.args.guest c.args.queue k)) a b n c.loop-lane.invariant.round _ w c.after-whole.result c.after-whole.ensures c.take_on-pass.ensures.pass (c.has_stopped-stopped.ensures.yes c.if-stopped.true)
 
 pub loop-lane-preserved : goal.loop-lane-preserved
 loop-lane-preserved g c =
@@ -40,7 +42,7 @@ loop-lane-preserved g c =
     let n : Scene = scene c.take_on-pass.new.self (g.C.MemoryCell.bytes c.take_on-pass.new.memory) in
     let w : Worked = c.take_on-pass.result in
     record {
-      round = round-on (scope.Guest c.args.guest) c.args.most c.loop-lane.done c.loop-lane.lane (λ (s : Scene) (k : ℕ). NoneTakes s c.args.guest k) a b n c.loop-lane.invariant.round w c.after-whole.result c.after-whole.ensures (c.take_on-pass.ensures.pass) (c.has_stopped-stopped.ensures.no c.if-stopped.false);
+      round = round-on (scope.Guest c.args.guest) c.args.most c.loop-lane.done c.loop-lane.lane (λ (s : Scene) (k : ℕ). NotDue s (event.Take c.args.guest c.args.queue k)) a b n c.loop-lane.invariant.round w c.after-whole.result c.after-whole.ensures c.take_on-pass.ensures.pass (c.has_stopped-stopped.ensures.no c.if-stopped.false);
       setup = c.take_on-pass.ensures.setup ∙ c.loop-lane.invariant.setup;
       len = c.take_on-pass.ensures.len ∙ c.loop-lane.invariant.len;
     }
@@ -50,5 +52,8 @@ returns-clause-pass g c =
     let a : Scene = scene c.args.self.now (g.C.MemoryCell.bytes c.args.memory.now) in
     let b : Scene = scene c.loop-lane.self (g.C.MemoryCell.bytes c.loop-lane.memory) in
     let end = c.loop-lane-test.false in
-    round-end (scope.Guest c.args.guest) c.args.most c.loop-lane.done c.loop-lane.lane (λ (s : Scene) (k : ℕ). NoneTakes s c.args.guest k) a b c.loop-lane.invariant.round _ c.so_far-2.result c.so_far-2.ensures
-    (λ below k less. below k (let many = c.lanes-lane-end.ensures in omega (arith, less, end, many)))
+    round-end (scope.Guest c.args.guest) c.args.most c.loop-lane.done c.loop-lane.lane (λ (s : Scene) (k : ℕ). NotDue s (event.Take c.args.guest c.args.queue k)) a b c.loop-lane.invariant.round _ c.so_far-2.result c.so_far-2.ensures
+    (λ below lane. elim (cases_lt lane (length c.args.self.now.side.lanes)) [
+      | inl less ↦ below lane (let all = c.sizes.ensures.lanes in let many = c.lanes-lane-end.ensures in omega (arith, less, end, many, all))
+      | inr beyond ↦ past-take a c.args.guest c.args.queue lane beyond
+    ])

@@ -1,6 +1,7 @@
 use Rattle.std.proofs.Common.{◌≡◌, ℕ, List, Some, sym, ap, ◌∙◌}
 use Rattle.nv_tags.specs.Kept.{tags_in}
 use Rattle.nv_tags.specs.Tags.{command_of, leader_in, taken_by}
+use Rattle.nv_tags.proofs.Marks.{mask-taken, mask-unended}
 use Rattle.nv_tags.proofs.Masks.{among-tags_in}
 use Rattle.nv_tags.proofs.Together.{AreKept-taken, claimed-mask, found-free, its-leader, leader-one, same-some, slots-taken, taken-one}
 use Rattle.nv_tags.proofs.tags.Tags.claim_group.Goals as goal
@@ -16,31 +17,38 @@ pub returns-in_err-mask-clause-leader : goal.returns-in_err-mask-clause-leader
 returns-in_err-mask-clause-leader c =
     c.from_residual.ensures
     ∙ ap leader_in (c.in_err-mask.ensures
-    ∙ claimed-mask c.self.inside.states c.self.inside.claims c.self.inside.leaders c.self.inside.groups c.self.invariant c.args.self.now c.self.view_is c.args.count)
+    ∙ claimed-mask c.self.inside.states c.self.inside.claims c.self.inside.leaders c.self.inside.groups c.self.invariant.0 c.args.self.now c.self.view_is c.args.count)
 
 pub invariant_of-self : goal.invariant_of-self
 invariant_of-self c =
-    rw (c.take_each.ensures.states, c.take_each.ensures.claims, c.take_each.ensures.leaders, c.from.ensures)
-    (AreKept-taken c.self.inside.states c.self.inside.claims c.self.inside.leaders c.self.inside.groups c.self.invariant
-    c.in-Some.leader c.in_ok-mask.mask c.without.result c.in-Some.ensures.there
-    (its-leader c.in_ok-mask.mask c.in-Some.leader c.of.result c.pop.new.self c.of.ensures c.in-Some.ensures.lowest c.in-Some.ensures.there)
-    c.without.ensures
-    (λ t below its. found-free c.self.inside.states c.args.count (tags_in c.in_ok-mask.mask) t c.in_ok-mask.ensures
-    (among-tags_in c.in_ok-mask.mask t below ∙ its))
-    c.of-2.result c.of-2.ensures c.args.claim)
+    rw (c.take_each.ensures.states, c.take_each.ensures.claims, c.take_each.ensures.leaders, c.from.ensures) (
+      (AreKept-taken c.self.inside.states c.self.inside.claims c.self.inside.leaders c.self.inside.groups c.self.invariant.0
+          c.in-Some.leader c.in_ok-mask.mask c.without.result c.in-Some.ensures.there
+          (its-leader c.in_ok-mask.mask c.in-Some.leader c.of.result c.pop.new.self c.of.ensures c.in-Some.ensures.lowest c.in-Some.ensures.there)
+          c.without.ensures
+          (λ t below its. found-free c.self.inside.states c.args.count (tags_in c.in_ok-mask.mask) t c.in_ok-mask.ensures
+          (among-tags_in c.in_ok-mask.mask t below ∙ its))
+          c.of-2.result c.of-2.ensures c.args.claim),
+      record {
+        taken_are = mask-taken c.self.inside.states c.of-2.result c.in_ok-mask.mask c.self.invariant.0.states_are c.of-2.ensures c.self.inside.taken c.self.invariant.1.taken_are;
+        ended_are = mask-unended c.self.inside.states c.of-2.result c.in_ok-mask.mask c.self.invariant.0.states_are c.of-2.ensures c.self.inside.ended
+            (λ t below its. found-free c.self.inside.states c.args.count (tags_in c.in_ok-mask.mask) t c.in_ok-mask.ensures
+            (among-tags_in c.in_ok-mask.mask t below ∙ its)) c.self.invariant.1.ended_are;
+      },
+    )
 
 pub returns-clause-leader : goal.returns-clause-leader
 returns-clause-leader c =
     ap leader_in (ap (λ (ts : List ℕ). Some ts) (sym c.in-Some.ensures.lowest ∙ c.of.ensures) ∙ c.in_ok-mask.ensures
-    ∙ claimed-mask c.self.inside.states c.self.inside.claims c.self.inside.leaders c.self.inside.groups c.self.invariant c.args.self.now c.self.view_is c.args.count)
+    ∙ claimed-mask c.self.inside.states c.self.inside.claims c.self.inside.leaders c.self.inside.groups c.self.invariant.0 c.args.self.now c.self.view_is c.args.count)
 
 pub returns-clause-some : goal.returns-clause-some
 returns-clause-some c = λ tags are.
     (let same : tags_in c.in_ok-mask.mask ≡ tags =
     same-some (tags_in c.in_ok-mask.mask) tags (c.in_ok-mask.ensures
-    ∙ claimed-mask c.self.inside.states c.self.inside.claims c.self.inside.leaders c.self.inside.groups c.self.invariant c.args.self.now c.self.view_is c.args.count ∙ are) in
+    ∙ claimed-mask c.self.inside.states c.self.inside.claims c.self.inside.leaders c.self.inside.groups c.self.invariant.0 c.args.self.now c.self.view_is c.args.count ∙ are) in
     rw (c.take_each.ensures.states, c.take_each.ensures.claims, c.take_each.ensures.leaders)
-    (slots-taken c.self.inside.states c.self.inside.claims c.self.inside.leaders c.self.inside.groups c.self.invariant
+    (slots-taken c.self.inside.states c.self.inside.claims c.self.inside.leaders c.self.inside.groups c.self.invariant.0
     c.in-Some.leader c.in_ok-mask.mask c.without.result c.in-Some.ensures.there
     (its-leader c.in_ok-mask.mask c.in-Some.leader c.of.result c.pop.new.self c.of.ensures c.in-Some.ensures.lowest c.in-Some.ensures.there)
     c.without.ensures

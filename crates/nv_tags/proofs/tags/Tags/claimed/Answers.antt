@@ -4,18 +4,18 @@ use Rattle.nv_tags.proofs.tags.Tags.claimed.Goals as goal
 
 pub listed : goal.listed
 listed c =
-    let below = there c.self.inside.states c.self.inside.claims c.self.inside.leaders c.self.inside.groups c.self.invariant c.args.self.now c.self.view_is
+    let below = there c.self.inside.states c.self.inside.claims c.self.inside.leaders c.self.inside.groups c.self.invariant.0 c.args.self.now c.self.view_is
     c.args.tag c.from.result c.from.ensures c.requires.used in
-    let all = c.self.invariant.claims_are in
+    let all = c.self.invariant.0.claims_are in
     omega arith
 
 pub bounds-self-inside-from : goal.bounds-self-inside-from
 bounds-self-inside-from c =
-    there c.self.inside.states c.self.inside.claims c.self.inside.leaders c.self.inside.groups c.self.invariant c.args.self.now c.self.view_is
+    there c.self.inside.states c.self.inside.claims c.self.inside.leaders c.self.inside.groups c.self.invariant.0 c.args.self.now c.self.view_is
     c.args.tag c.from.result c.from.ensures c.requires.used
 
 pub returns : goal.returns
 returns c =
-    claim-seen c.self.inside.states c.self.inside.claims c.self.inside.leaders c.self.inside.groups c.self.invariant c.args.self.now c.self.view_is
+    claim-seen c.self.inside.states c.self.inside.claims c.self.inside.leaders c.self.inside.groups c.self.invariant.0 c.args.self.now c.self.view_is
     c.args.tag c.from.result c.from.ensures
     c.index-self-from.result c.requires.used

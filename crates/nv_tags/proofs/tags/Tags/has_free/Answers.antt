@@ -9,5 +9,5 @@ returns c =
     ∙ ap (λ (o : Option ℕ). is_some o)
     (c.lowest_free.ensures
     ∙ sym (free_slot-is c.self.inside.states c.self.inside.claims c.self.inside.leaders
-    (as_claims c.self.inside.states c.self.inside.claims c.self.inside.leaders c.self.inside.groups c.self.invariant 0) (as_leaders c.self.inside.states c.self.inside.claims c.self.inside.leaders c.self.inside.groups c.self.invariant 0))
+    (as_claims c.self.inside.states c.self.inside.claims c.self.inside.leaders c.self.inside.groups c.self.invariant.0 0) (as_leaders c.self.inside.states c.self.inside.claims c.self.inside.leaders c.self.inside.groups c.self.invariant.0 0))
     ∙ ap free_slot c.self.view_is)

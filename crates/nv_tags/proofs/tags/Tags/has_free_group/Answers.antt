@@ -13,5 +13,5 @@ returns c =
     c.is_some.ensures ∙ mapped c.lowest_free_mask.result
     ∙ ap (λ (o : Option (List ℕ)). is_some o)
     (c.lowest_free_mask.ensures
-    ∙ sym (ap (lowest c.args.count) (free_slots-is c.self.inside.states c.self.inside.claims c.self.inside.leaders c.self.inside.groups c.self.invariant))
+    ∙ sym (ap (lowest c.args.count) (free_slots-is c.self.inside.states c.self.inside.claims c.self.inside.leaders c.self.inside.groups c.self.invariant.0))
     ∙ ap (claimed c.args.count) c.self.view_is)

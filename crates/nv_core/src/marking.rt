@@ -1,0 +1,51 @@
+//! The tags of a lane whose commands are at one point.
+
+ghost use Rattle.std.specs.Prelude.{◌≡◌, [], false, slice_get};
+ghost use Rattle.nv_core.specs.Kept.{IsLent};
+ghost use Rattle.nv_core.specs.Reaping.{waits_in};
+ghost use Rattle.nv_core.specs.Tags.{ended_in, taken_in};
+
+use crate::front::Front;
+use crate::layout::Layout;
+use nv_mem::MemoryCell;
+use nv_tags::Group;
+
+impl Front {
+    /// The tags of a lane whose commands wait for their plans, in order; none where there is no such lane.
+    #[inline(always)]
+    pub fn taken(&self, lane: u8) -> Group
+        ensures { result ≡ taken_in (slice_get self.now.lanes lane) }
+    {
+        let at = usize::from(lane);
+        if at >= self.lanes.len() {
+            return Group::none();
+        }
+        self.lanes[at].taken()
+    }
+
+    /// Whether something may be due of a lane: a completion of the physical controller waits, or some part has ended.
+    #[inline(always)]
+    pub fn has_news<C: MemoryCell>(&self, layout: &Layout, lane: u8, host: &[C]) -> bool
+        requires { IsLent layout.now self.now (C.bytes host.now) }
+        ensures waits { result ≡ false → waits_in layout.now lane (slice_get self.now.lanes lane) (C.bytes host.now) ≡ false }
+        ensures ended { result ≡ false → ended_in (slice_get self.now.lanes lane) ≡ [] }
+    {
+        let mut ended = self.ended(lane);
+        if ended.pop().is_some() {
+            return true;
+        }
+        self.reap_due(layout, lane, host)
+    }
+
+    /// The tags of a lane whose parts have ended, in order; none where there is no such lane.
+    #[inline(always)]
+    pub fn ended(&self, lane: u8) -> Group
+        ensures { result ≡ ended_in (slice_get self.now.lanes lane) }
+    {
+        let at = usize::from(lane);
+        if at >= self.lanes.len() {
+            return Group::none();
+        }
+        self.lanes[at].ended_parts()
+    }
+}
