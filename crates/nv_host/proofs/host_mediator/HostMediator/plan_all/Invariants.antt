@@ -8,7 +8,8 @@ use Rattle.nv_host.proofs.host_mediator.HostMediator.plan_all.Given as goal
 abbrev pub invariant-loop-lane : goal.invariant-loop-lane
 invariant-loop-lane g l =
     record {
-      round : IsRound scope.All l.most l.done l.lane (λ (s : Scene) (k : ℕ). (tag : ℕ) → NothingWaitsAt s k tag) (scene l.fn.self (g.C.MemoryCell.bytes l.fn.memory)) (scene l.self (g.C.MemoryCell.bytes l.memory));
+      round : IsRound scope.All l.most l.done l.lane (λ (s : Scene) (k : ℕ). (tag : ℕ) → NothingWaitsAt s k tag) (scene l.fn.self (g.C.MemoryCell.bytes l.fn.memory))
+          (scene l.self (g.C.MemoryCell.bytes l.memory));
       setup : l.self.setup ≡ l.fn.self.setup;
       len : length (g.C.MemoryCell.bytes l.memory) ≡ length (g.C.MemoryCell.bytes l.fn.memory);
     }

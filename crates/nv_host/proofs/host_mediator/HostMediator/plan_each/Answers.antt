@@ -14,13 +14,15 @@ use Rattle.nv_host.proofs.host_mediator.HostMediator.plan_each.Goals as goal
 pub loop-tag-init : goal.loop-tag-init
 loop-tag-init g c =
     let a : Scene = scene c.args.self.now (g.C.MemoryCell.bytes c.args.memory.now) in
-    record { search = search-none (scope.Guest c.args.guest) c.args.most c.taken-taken.result (λ (s : Scene) (k : ℕ). NoneWaitsAt s c.args.guest c.args.lane k) a (λ k out. not-taken a c.args.lane k (among-same (λ (x : Side). taken_in (slice_get x.lanes c.args.lane)) c.self.inside.front c.args.self.now (made c.self.inside.host_bytes c.self.inside.lanes c.self.inside.layout c.self.inside.front c.self.inside.closed.items) c.self.view_is refl c.taken-taken.result c.taken-taken.ensures k out) c.args.guest); setup = refl; len = refl }
+    record
+    { search = search-none (scope.Guest c.args.guest) c.args.most c.taken-taken.result (λ (s : Scene) (k : ℕ). NoneWaitsAt s c.args.guest c.args.lane k) a (λ k out. not-taken a c.args.lane k (among-same (λ (x : Side). taken_in (slice_get x.lanes c.args.lane)) c.self.inside.front c.args.self.now (made c.self.inside.host_bytes c.self.inside.lanes c.self.inside.layout c.self.inside.front c.self.inside.closed.items) c.self.view_is refl c.taken-taken.result c.taken-taken.ensures k out) c.args.guest); setup = refl; len = refl }
 
 pub returns-then-done-turn-clause-pass : goal.returns-then-done-turn-clause-pass
 returns-then-done-turn-clause-pass g c =
     let a : Scene = scene c.args.self.now (g.C.MemoryCell.bytes c.args.memory.now) in
     let b : Scene = scene c.loop-tag.self (g.C.MemoryCell.bytes c.loop-tag.memory) in
-    search-full (scope.Guest c.args.guest) c.args.most c.loop-tag.done c.loop-tag.taken (λ (s : Scene) (k : ℕ). NoneWaitsAt s c.args.guest c.args.lane k) a b c.loop-tag.invariant.search _ c.args.turn c.so_far.result c.so_far.ensures c.if-done-turn.true c.requires.some
+    search-full (scope.Guest c.args.guest) c.args.most c.loop-tag.done c.loop-tag.taken (λ (s : Scene) (k : ℕ). NoneWaitsAt s c.args.guest c.args.lane k) a b
+    c.loop-tag.invariant.search _ c.args.turn c.so_far.result c.so_far.ensures c.if-done-turn.true c.requires.some
 
 pub after-whole-requires : goal.after-whole-requires
 after-whole-requires g c =
@@ -28,7 +30,9 @@ after-whole-requires g c =
     let b : Scene = scene c.loop-tag.self (g.C.MemoryCell.bytes c.loop-tag.memory) in
     let n : Scene = scene c.plan-pass.new.self (g.C.MemoryCell.bytes c.plan-pass.new.memory) in
     let w : Worked = c.plan-pass.result in
-    after-fits (scope.Guest c.args.guest) c.args.most c.loop-tag.done (w.done ≡ 0 → (λ (s : Scene) (k : ℕ). NoneWaitsAt s c.args.guest c.args.lane k) b c.in-Some.tag) w b n c.plan-pass.ensures.pass c.loop-tag.invariant.search.few c.ranges.most.fits
+    after-fits (scope.Guest c.args.guest) c.args.most c.loop-tag.done
+    (w.done ≡ 0 → (λ (s : Scene) (k : ℕ). NoneWaitsAt s c.args.guest c.args.lane k) b c.in-Some.tag) w b n c.plan-pass.ensures.pass c.loop-tag.invariant.search.few
+    c.ranges.most.fits
 
 pub returns-then-stopped-clause-pass : goal.returns-then-stopped-clause-pass
 returns-then-stopped-clause-pass g c =
@@ -36,7 +40,9 @@ returns-then-stopped-clause-pass g c =
     let b : Scene = scene c.loop-tag.self (g.C.MemoryCell.bytes c.loop-tag.memory) in
     let n : Scene = scene c.plan-pass.new.self (g.C.MemoryCell.bytes c.plan-pass.new.memory) in
     let w : Worked = c.plan-pass.result in
-    search-stop (scope.Guest c.args.guest) c.args.most c.loop-tag.done c.in-Some.tag c.loop-tag.taken c.pop.new.self (λ (s : Scene) (k : ℕ). NoneWaitsAt s c.args.guest c.args.lane k) a b n c.loop-tag.invariant.search c.in-Some.ensures.lowest _ w c.after-whole.result c.after-whole.ensures c.plan-pass.ensures.pass (c.has_stopped-stopped.ensures.yes c.if-stopped.true)
+    search-stop (scope.Guest c.args.guest) c.args.most c.loop-tag.done c.in-Some.tag c.loop-tag.taken c.pop.new.self
+    (λ (s : Scene) (k : ℕ). NoneWaitsAt s c.args.guest c.args.lane k) a b n c.loop-tag.invariant.search c.in-Some.ensures.lowest _ w c.after-whole.result
+    c.after-whole.ensures c.plan-pass.ensures.pass (c.has_stopped-stopped.ensures.yes c.if-stopped.true)
 
 pub loop-tag-preserved : goal.loop-tag-preserved
 loop-tag-preserved g c =
@@ -45,7 +51,9 @@ loop-tag-preserved g c =
     let n : Scene = scene c.plan-pass.new.self (g.C.MemoryCell.bytes c.plan-pass.new.memory) in
     let w : Worked = c.plan-pass.result in
     record {
-      search = search-on (scope.Guest c.args.guest) c.args.most c.loop-tag.done c.in-Some.tag c.loop-tag.taken c.pop.new.self (λ (s : Scene) (k : ℕ). NoneWaitsAt s c.args.guest c.args.lane k) a b n c.loop-tag.invariant.search c.in-Some.ensures.lowest w c.after-whole.result c.after-whole.ensures c.plan-pass.ensures.pass (c.has_stopped-stopped.ensures.no c.if-stopped.false);
+      search = search-on (scope.Guest c.args.guest) c.args.most c.loop-tag.done c.in-Some.tag c.loop-tag.taken c.pop.new.self
+          (λ (s : Scene) (k : ℕ). NoneWaitsAt s c.args.guest c.args.lane k) a b n c.loop-tag.invariant.search c.in-Some.ensures.lowest w c.after-whole.result
+          c.after-whole.ensures c.plan-pass.ensures.pass (c.has_stopped-stopped.ensures.no c.if-stopped.false);
       setup = c.plan-pass.ensures.setup ∙ c.loop-tag.invariant.setup;
       len = c.plan-pass.ensures.len ∙ c.loop-tag.invariant.len;
     }
@@ -54,6 +62,7 @@ pub returns-clause-pass : goal.returns-clause-pass
 returns-clause-pass g c =
     let a : Scene = scene c.args.self.now (g.C.MemoryCell.bytes c.args.memory.now) in
     let b : Scene = scene c.loop-tag.self (g.C.MemoryCell.bytes c.loop-tag.memory) in
-    search-end (scope.Guest c.args.guest) c.args.most c.loop-tag.done c.loop-tag.taken (λ (s : Scene) (k : ℕ). NoneWaitsAt s c.args.guest c.args.lane k) a b c.loop-tag.invariant.search
+    search-end (scope.Guest c.args.guest) c.args.most c.loop-tag.done c.loop-tag.taken (λ (s : Scene) (k : ℕ). NoneWaitsAt s c.args.guest c.args.lane k) a b
+    c.loop-tag.invariant.search
     (none-left c.pop.result c.loop-tag.taken c.pop.new.self c.in_default.is c.pop.ensures.lowest) _ c.so_far-2.result c.so_far-2.ensures
     (λ none. none)

@@ -8,7 +8,8 @@ use Rattle.nv_host.proofs.host_mediator.HostMediator.plan_lane.Given as goal
 abbrev pub invariant-loop-tag : goal.invariant-loop-tag
 invariant-loop-tag g l =
     record {
-      search : IsSearch scope.All l.most l.done l.taken (λ (s : Scene) (k : ℕ). NothingWaitsAt s l.lane k) (scene l.fn.self (g.C.MemoryCell.bytes l.fn.memory)) (scene l.self (g.C.MemoryCell.bytes l.memory));
+      search : IsSearch scope.All l.most l.done l.taken (λ (s : Scene) (k : ℕ). NothingWaitsAt s l.lane k) (scene l.fn.self (g.C.MemoryCell.bytes l.fn.memory))
+          (scene l.self (g.C.MemoryCell.bytes l.memory));
       setup : l.self.setup ≡ l.fn.self.setup;
       len : length (g.C.MemoryCell.bytes l.memory) ≡ length (g.C.MemoryCell.bytes l.fn.memory);
     }

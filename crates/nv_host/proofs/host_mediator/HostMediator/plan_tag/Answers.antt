@@ -21,6 +21,7 @@ returns-in-Some-clause-pass g c =
     let n : Scene = scene c.plan.new.self (g.C.MemoryCell.bytes c.plan.new.memory) in
     let w : Worked = c.plan.result in
     let h : Holder = c.in-Some.holder in
-    ended-so scope.All c.args.most w.done (w.done ≡ 0 → NothingWaitsAt a c.args.lane c.args.tag) (w.done ≡ 0 → NoneWaitsAt a h.guest c.args.lane c.args.tag) w.why a n
+    ended-so scope.All c.args.most w.done (w.done ≡ 0 → NothingWaitsAt a c.args.lane c.args.tag) (w.done ≡ 0 → NoneWaitsAt a h.guest c.args.lane c.args.tag) w.why a
+    n
     (ended-all (scope.Guest h.guest) c.args.most w.done (w.done ≡ 0 → NoneWaitsAt a h.guest c.args.lane c.args.tag) w.why a n c.plan.ensures.pass)
     (λ none zero. holder-waits a c.args.lane c.args.tag h (sym c.holder.ensures ∙ c.in-Some.is) (none zero))

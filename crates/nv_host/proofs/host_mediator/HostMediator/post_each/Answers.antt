@@ -12,13 +12,15 @@ use Rattle.nv_host.proofs.host_mediator.HostMediator.post_each.Goals as goal
 pub loop-tag-init : goal.loop-tag-init
 loop-tag-init g c =
     let a : Scene = scene c.args.self.now (g.C.MemoryCell.bytes c.args.memory.now) in
-    record { search = search-none (scope.Lane c.args.lane) c.args.most c.ended-ended.result (λ (s : Scene) (k : ℕ). NotDue s (event.Post c.args.lane k)) a (λ k out. not-ended a c.args.lane k (among-same (λ (x : Side). ended_in (slice_get x.lanes c.args.lane)) c.self.inside.front c.args.self.now (made c.self.inside.host_bytes c.self.inside.lanes c.self.inside.layout c.self.inside.front c.self.inside.closed.items) c.self.view_is refl c.ended-ended.result c.ended-ended.ensures k out)); setup = refl; len = refl }
+    record
+    { search = search-none (scope.Lane c.args.lane) c.args.most c.ended-ended.result (λ (s : Scene) (k : ℕ). NotDue s (event.Post c.args.lane k)) a (λ k out. not-ended a c.args.lane k (among-same (λ (x : Side). ended_in (slice_get x.lanes c.args.lane)) c.self.inside.front c.args.self.now (made c.self.inside.host_bytes c.self.inside.lanes c.self.inside.layout c.self.inside.front c.self.inside.closed.items) c.self.view_is refl c.ended-ended.result c.ended-ended.ensures k out)); setup = refl; len = refl }
 
 pub returns-then-done-most-clause-pass : goal.returns-then-done-most-clause-pass
 returns-then-done-most-clause-pass g c =
     let a : Scene = scene c.args.self.now (g.C.MemoryCell.bytes c.args.memory.now) in
     let b : Scene = scene c.loop-tag.self (g.C.MemoryCell.bytes c.loop-tag.memory) in
-    search-full (scope.Lane c.args.lane) c.args.most c.loop-tag.done c.loop-tag.ended (λ (s : Scene) (k : ℕ). NotDue s (event.Post c.args.lane k)) a b c.loop-tag.invariant.search _ c.args.most c.so_far.result c.so_far.ensures c.if-done-most.true c.requires.some
+    search-full (scope.Lane c.args.lane) c.args.most c.loop-tag.done c.loop-tag.ended (λ (s : Scene) (k : ℕ). NotDue s (event.Post c.args.lane k)) a b
+    c.loop-tag.invariant.search _ c.args.most c.so_far.result c.so_far.ensures c.if-done-most.true c.requires.some
 
 pub loop-tag-preserved : goal.loop-tag-preserved
 loop-tag-preserved g c =
@@ -28,7 +30,9 @@ loop-tag-preserved g c =
     let below = c.if-done-most.false in
     let few = c.post_one-more.ensures.few in
     record {
-      search = search-count (scope.Lane c.args.lane) c.args.most c.loop-tag.done c.in-Some.tag c.loop-tag.ended c.pop.new.self (λ (s : Scene) (k : ℕ). NotDue s (event.Post c.args.lane k)) a b n c.loop-tag.invariant.search c.in-Some.ensures.lowest c.post_one-more.result c.post_one-more.ensures.leads (omega (arith, below, few)) c.post_one-more.ensures.none;
+      search = search-count (scope.Lane c.args.lane) c.args.most c.loop-tag.done c.in-Some.tag c.loop-tag.ended c.pop.new.self
+          (λ (s : Scene) (k : ℕ). NotDue s (event.Post c.args.lane k)) a b n c.loop-tag.invariant.search c.in-Some.ensures.lowest c.post_one-more.result
+          c.post_one-more.ensures.leads (omega (arith, below, few)) c.post_one-more.ensures.none;
       setup = c.post_one-more.ensures.setup ∙ c.loop-tag.invariant.setup;
       len = c.post_one-more.ensures.len ∙ c.loop-tag.invariant.len;
     }
@@ -37,6 +41,7 @@ pub returns-clause-pass : goal.returns-clause-pass
 returns-clause-pass g c =
     let a : Scene = scene c.args.self.now (g.C.MemoryCell.bytes c.args.memory.now) in
     let b : Scene = scene c.loop-tag.self (g.C.MemoryCell.bytes c.loop-tag.memory) in
-    search-end (scope.Lane c.args.lane) c.args.most c.loop-tag.done c.loop-tag.ended (λ (s : Scene) (k : ℕ). NotDue s (event.Post c.args.lane k)) a b c.loop-tag.invariant.search
+    search-end (scope.Lane c.args.lane) c.args.most c.loop-tag.done c.loop-tag.ended (λ (s : Scene) (k : ℕ). NotDue s (event.Post c.args.lane k)) a b
+    c.loop-tag.invariant.search
     (none-left c.pop.result c.loop-tag.ended c.pop.new.self c.in_default.is c.pop.ensures.lowest) _ c.so_far-2.result c.so_far-2.ensures
     (λ none. none)

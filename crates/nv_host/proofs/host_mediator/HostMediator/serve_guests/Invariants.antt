@@ -8,7 +8,8 @@ use Rattle.nv_host.proofs.host_mediator.HostMediator.serve_guests.Given as goal
 abbrev pub invariant-loop-guest : goal.invariant-loop-guest
 invariant-loop-guest g l =
     record {
-      search : IsSearch scope.All l.most l.done l.noted (λ (s : Scene) (k : ℕ). k < 16 → QueuesRest s k) (scene l.fn.self (g.C.MemoryCell.bytes l.fn.memory)) (scene l.self (g.C.MemoryCell.bytes l.memory));
+      search : IsSearch scope.All l.most l.done l.noted (λ (s : Scene) (k : ℕ). k < 16 → QueuesRest s k) (scene l.fn.self (g.C.MemoryCell.bytes l.fn.memory))
+          (scene l.self (g.C.MemoryCell.bytes l.memory));
       setup : l.self.setup ≡ l.fn.self.setup;
       len : length (g.C.MemoryCell.bytes l.memory) ≡ length (g.C.MemoryCell.bytes l.fn.memory);
     }

@@ -21,5 +21,6 @@ returns-then-not-has_news-clause-pass g c =
     let a : Scene = scene c.args.self.now memory in
     pass-none (scope.Lane c.args.lane) (Rests (scope.Lane c.args.lane) a) c.args.most c.so_far.result a a c.so_far.ensures refl
     (no-news a c.args.lane
-    (subst (λ (x : Served). waits_in x.setup.geometry c.args.lane (slice_get x.side.lanes c.args.lane) memory ≡ false) c.self.view_is (c.has_news.ensures.waits c.if-not-has_news.true))
+    (subst (λ (x : Served). waits_in x.setup.geometry c.args.lane (slice_get x.side.lanes c.args.lane) memory ≡ false) c.self.view_is
+    (c.has_news.ensures.waits c.if-not-has_news.true))
     (subst (λ (x : Served). ended_in (slice_get x.side.lanes c.args.lane) ≡ []) c.self.view_is (c.has_news.ensures.ended c.if-not-has_news.true)))

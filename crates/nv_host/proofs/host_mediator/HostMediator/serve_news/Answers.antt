@@ -11,7 +11,8 @@ pub returns-then-ends-clause-pass : goal.returns-then-ends-clause-pass
 returns-then-ends-clause-pass g c =
     let a : Scene = scene c.args.self.now (g.C.MemoryCell.bytes c.args.memory.now) in
     let b : Scene = scene c.reap_each-read.new.self (g.C.MemoryCell.bytes c.args.memory.now) in
-    two-first (scope.Lane c.args.lane) _ (NotDue a (event.Reap c.args.lane)) c.args.most c.reap_each-read.result a b (c.reap_each-read.ensures.pass) c.args.most (c.ends.ensures.yes c.if-ends.true) c.requires.some
+    two-first (scope.Lane c.args.lane) _ (NotDue a (event.Reap c.args.lane)) c.args.most c.reap_each-read.result a b (c.reap_each-read.ensures.pass) c.args.most
+    (c.ends.ensures.yes c.if-ends.true) c.requires.some
 
 pub after-requires : goal.after-requires
 after-requires g c =
@@ -19,8 +20,10 @@ after-requires g c =
     let b : Scene = scene c.reap_each-read.new.self (g.C.MemoryCell.bytes c.args.memory.now) in
     let n : Scene = scene c.post_each-posted.new.self (g.C.MemoryCell.bytes c.post_each-posted.new.memory) in
     let on = c.ends.ensures.no c.if-ends.false in
-    after-fits (scope.Lane c.args.lane) c.args.most c.reap_each-read.result.done (c.post_each-posted.result.done ≡ 0 → NonePosts b c.args.lane) c.post_each-posted.result b n c.post_each-posted.ensures.pass
-    (first-leads (scope.Lane c.args.lane) (NotDue a (event.Reap c.args.lane)) (NotDue a (event.Reap c.args.lane)) c.args.most c.reap_each-read.result a b (c.reap_each-read.ensures.pass) on.0).1 c.ranges.most.fits
+    after-fits (scope.Lane c.args.lane) c.args.most c.reap_each-read.result.done (c.post_each-posted.result.done ≡ 0 → NonePosts b c.args.lane)
+    c.post_each-posted.result b n c.post_each-posted.ensures.pass
+    (first-leads (scope.Lane c.args.lane) (NotDue a (event.Reap c.args.lane)) (NotDue a (event.Reap c.args.lane)) c.args.most c.reap_each-read.result a b (c.reap_each-read.ensures.pass) on.0).1
+    c.ranges.most.fits
 
 pub returns-clause-pass : goal.returns-clause-pass
 returns-clause-pass g c =
@@ -28,5 +31,6 @@ returns-clause-pass g c =
     let b : Scene = scene c.reap_each-read.new.self (g.C.MemoryCell.bytes c.args.memory.now) in
     let n : Scene = scene c.post_each-posted.new.self (g.C.MemoryCell.bytes c.post_each-posted.new.memory) in
     let on = c.ends.ensures.no c.if-ends.false in
-    two-both (scope.Lane c.args.lane) _ (NotDue a (event.Reap c.args.lane)) c.args.most c.reap_each-read.result a b (c.reap_each-read.ensures.pass) (λ (b : Scene). NonePosts b c.args.lane) c.post_each-posted.result c.after.result n on.0 c.after.ensures c.post_each-posted.ensures.pass
+    two-both (scope.Lane c.args.lane) _ (NotDue a (event.Reap c.args.lane)) c.args.most c.reap_each-read.result a b (c.reap_each-read.ensures.pass)
+    (λ (b : Scene). NonePosts b c.args.lane) c.post_each-posted.result c.after.result n on.0 c.after.ensures c.post_each-posted.ensures.pass
     (λ no_reap none_posts. lane-rests a c.args.lane no_reap none_posts)

@@ -11,7 +11,8 @@ use Rattle.nv_host.proofs.host_mediator.HostMediator.take_lanes.Goals as goal
 pub loop-lane-init : goal.loop-lane-init
 loop-lane-init g c =
     let a : Scene = scene c.args.self.now (g.C.MemoryCell.bytes c.args.memory.now) in
-    record { round = round-none (scope.Guest c.args.guest) c.args.most (λ (s : Scene) (k : ℕ). NotDue s (event.Take c.args.guest c.args.queue k)) a; setup = refl; len = refl }
+    record
+    { round = round-none (scope.Guest c.args.guest) c.args.most (λ (s : Scene) (k : ℕ). NotDue s (event.Take c.args.guest c.args.queue k)) a; setup = refl; len = refl }
 
 pub after-whole-requires : goal.after-whole-requires
 after-whole-requires g c =
@@ -19,13 +20,16 @@ after-whole-requires g c =
     let b : Scene = scene c.loop-lane.self (g.C.MemoryCell.bytes c.loop-lane.memory) in
     let n : Scene = scene c.take_on-pass.new.self (g.C.MemoryCell.bytes c.take_on-pass.new.memory) in
     let w : Worked = c.take_on-pass.result in
-    after-fits (scope.Guest c.args.guest) c.args.most c.loop-lane.done (w.done ≡ 0 → (λ (s : Scene) (k : ℕ). NotDue s (event.Take c.args.guest c.args.queue k)) b c.loop-lane.lane) w b n c.take_on-pass.ensures.pass c.loop-lane.invariant.round.few c.ranges.most.fits
+    after-fits (scope.Guest c.args.guest) c.args.most c.loop-lane.done
+    (w.done ≡ 0 → (λ (s : Scene) (k : ℕ). NotDue s (event.Take c.args.guest c.args.queue k)) b c.loop-lane.lane) w b n c.take_on-pass.ensures.pass
+    c.loop-lane.invariant.round.few c.ranges.most.fits
 
 pub returns-then-done-turn-clause-pass : goal.returns-then-done-turn-clause-pass
 returns-then-done-turn-clause-pass g c =
     let a : Scene = scene c.args.self.now (g.C.MemoryCell.bytes c.args.memory.now) in
     let b : Scene = scene c.loop-lane.self (g.C.MemoryCell.bytes c.loop-lane.memory) in
-    round-full (scope.Guest c.args.guest) c.args.most c.loop-lane.done c.loop-lane.lane (λ (s : Scene) (k : ℕ). NotDue s (event.Take c.args.guest c.args.queue k)) a b c.loop-lane.invariant.round _ c.args.turn c.so_far.result c.so_far.ensures c.if-done-turn.true c.requires.some
+    round-full (scope.Guest c.args.guest) c.args.most c.loop-lane.done c.loop-lane.lane (λ (s : Scene) (k : ℕ). NotDue s (event.Take c.args.guest c.args.queue k)) a
+    b c.loop-lane.invariant.round _ c.args.turn c.so_far.result c.so_far.ensures c.if-done-turn.true c.requires.some
 
 pub returns-then-stopped-clause-pass : goal.returns-then-stopped-clause-pass
 returns-then-stopped-clause-pass g c =
@@ -33,7 +37,8 @@ returns-then-stopped-clause-pass g c =
     let b : Scene = scene c.loop-lane.self (g.C.MemoryCell.bytes c.loop-lane.memory) in
     let n : Scene = scene c.take_on-pass.new.self (g.C.MemoryCell.bytes c.take_on-pass.new.memory) in
     let w : Worked = c.take_on-pass.result in
-    round-stop (scope.Guest c.args.guest) c.args.most c.loop-lane.done c.loop-lane.lane (λ (s : Scene) (k : ℕ). NotDue s (event.Take c.args.guest c.args.queue k)) a b n c.loop-lane.invariant.round _ w c.after-whole.result c.after-whole.ensures c.take_on-pass.ensures.pass (c.has_stopped-stopped.ensures.yes c.if-stopped.true)
+    round-stop (scope.Guest c.args.guest) c.args.most c.loop-lane.done c.loop-lane.lane (λ (s : Scene) (k : ℕ). NotDue s (event.Take c.args.guest c.args.queue k)) a
+    b n c.loop-lane.invariant.round _ w c.after-whole.result c.after-whole.ensures c.take_on-pass.ensures.pass (c.has_stopped-stopped.ensures.yes c.if-stopped.true)
 
 pub loop-lane-preserved : goal.loop-lane-preserved
 loop-lane-preserved g c =
@@ -42,7 +47,9 @@ loop-lane-preserved g c =
     let n : Scene = scene c.take_on-pass.new.self (g.C.MemoryCell.bytes c.take_on-pass.new.memory) in
     let w : Worked = c.take_on-pass.result in
     record {
-      round = round-on (scope.Guest c.args.guest) c.args.most c.loop-lane.done c.loop-lane.lane (λ (s : Scene) (k : ℕ). NotDue s (event.Take c.args.guest c.args.queue k)) a b n c.loop-lane.invariant.round w c.after-whole.result c.after-whole.ensures c.take_on-pass.ensures.pass (c.has_stopped-stopped.ensures.no c.if-stopped.false);
+      round = round-on (scope.Guest c.args.guest) c.args.most c.loop-lane.done c.loop-lane.lane
+          (λ (s : Scene) (k : ℕ). NotDue s (event.Take c.args.guest c.args.queue k)) a b n c.loop-lane.invariant.round w c.after-whole.result c.after-whole.ensures
+          c.take_on-pass.ensures.pass (c.has_stopped-stopped.ensures.no c.if-stopped.false);
       setup = c.take_on-pass.ensures.setup ∙ c.loop-lane.invariant.setup;
       len = c.take_on-pass.ensures.len ∙ c.loop-lane.invariant.len;
     }
@@ -52,7 +59,8 @@ returns-clause-pass g c =
     let a : Scene = scene c.args.self.now (g.C.MemoryCell.bytes c.args.memory.now) in
     let b : Scene = scene c.loop-lane.self (g.C.MemoryCell.bytes c.loop-lane.memory) in
     let end = c.loop-lane-test.false in
-    round-end (scope.Guest c.args.guest) c.args.most c.loop-lane.done c.loop-lane.lane (λ (s : Scene) (k : ℕ). NotDue s (event.Take c.args.guest c.args.queue k)) a b c.loop-lane.invariant.round _ c.so_far-2.result c.so_far-2.ensures
+    round-end (scope.Guest c.args.guest) c.args.most c.loop-lane.done c.loop-lane.lane (λ (s : Scene) (k : ℕ). NotDue s (event.Take c.args.guest c.args.queue k)) a b
+    c.loop-lane.invariant.round _ c.so_far-2.result c.so_far-2.ensures
     (λ below lane. elim (cases_lt lane (length c.args.self.now.side.lanes)) [
       | inl less ↦ below lane (let all = c.sizes.ensures.lanes in let many = c.lanes-lane-end.ensures in omega (arith, less, end, many, all))
       | inr beyond ↦ past-take a c.args.guest c.args.queue lane beyond

@@ -8,7 +8,8 @@ use Rattle.nv_host.proofs.host_mediator.HostMediator.take_lanes.Given as goal
 abbrev pub invariant-loop-lane : goal.invariant-loop-lane
 invariant-loop-lane g l =
     record {
-      round : IsRound (scope.Guest l.guest) l.most l.done l.lane (λ (s : Scene) (k : ℕ). NotDue s (event.Take l.guest l.queue k)) (scene l.fn.self (g.C.MemoryCell.bytes l.fn.memory)) (scene l.self (g.C.MemoryCell.bytes l.memory));
+      round : IsRound (scope.Guest l.guest) l.most l.done l.lane (λ (s : Scene) (k : ℕ). NotDue s (event.Take l.guest l.queue k))
+          (scene l.fn.self (g.C.MemoryCell.bytes l.fn.memory)) (scene l.self (g.C.MemoryCell.bytes l.memory));
       setup : l.self.setup ≡ l.fn.self.setup;
       len : length (g.C.MemoryCell.bytes l.memory) ≡ length (g.C.MemoryCell.bytes l.fn.memory);
     }

@@ -12,4 +12,5 @@ pub returns-then-not-waits-clause-pass : goal.returns-then-not-waits-clause-pass
 returns-then-not-waits-clause-pass g c =
     let a : Scene = scene c.args.self.now (g.C.MemoryCell.bytes c.args.memory.now) in
     pass-none (scope.Guest c.args.guest) (NotDue a (event.Take c.args.guest c.args.queue c.args.lane)) c.args.most c.so_far.result a a c.so_far.ensures refl
-    (none-takes a c.args.guest c.args.queue (subst (λ (x : Served). NoneWaits c.args.guest c.args.queue x.side) c.self.view_is (c.waits.ensures c.if-not-waits.true)) c.args.lane)
+    (none-takes a c.args.guest c.args.queue (subst (λ (x : Served). NoneWaits c.args.guest c.args.queue x.side) c.self.view_is (c.waits.ensures c.if-not-waits.true))
+    c.args.lane)

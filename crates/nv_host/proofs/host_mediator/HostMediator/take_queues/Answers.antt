@@ -36,13 +36,17 @@ after-whole-requires g c =
     let b : Scene = scene c.loop-queue.self (g.C.MemoryCell.bytes c.loop-queue.memory) in
     let n : Scene = scene c.take_from-pass.new.self (g.C.MemoryCell.bytes c.take_from-pass.new.memory) in
     let w : Worked = c.take_from-pass.result in
-    after-fits (scope.Guest c.args.guest) c.args.most c.loop-queue.done (w.done ≡ 0 → (λ (s : Scene) (k : ℕ). (lane : ℕ) → NotDue s (event.Take c.args.guest k lane)) b c.loop-queue.queue) w b n c.take_from-pass.ensures.pass c.loop-queue.invariant.round.few c.ranges.most.fits
+    after-fits (scope.Guest c.args.guest) c.args.most c.loop-queue.done
+    (w.done ≡ 0 → (λ (s : Scene) (k : ℕ). (lane : ℕ) → NotDue s (event.Take c.args.guest k lane)) b c.loop-queue.queue) w b n c.take_from-pass.ensures.pass
+    c.loop-queue.invariant.round.few c.ranges.most.fits
 
 pub returns-then-done-turn-clause-pass : goal.returns-then-done-turn-clause-pass
 returns-then-done-turn-clause-pass g c =
     let a : Scene = scene c.args.self.now (g.C.MemoryCell.bytes c.args.memory.now) in
     let b : Scene = scene c.loop-queue.self (g.C.MemoryCell.bytes c.loop-queue.memory) in
-    round-full (scope.Guest c.args.guest) c.args.most c.loop-queue.done c.loop-queue.queue (λ (s : Scene) (k : ℕ). (lane : ℕ) → NotDue s (event.Take c.args.guest k lane)) a b c.loop-queue.invariant.round _ c.args.turn c.so_far.result c.so_far.ensures c.if-done-turn.true c.requires.some
+    round-full (scope.Guest c.args.guest) c.args.most c.loop-queue.done c.loop-queue.queue
+    (λ (s : Scene) (k : ℕ). (lane : ℕ) → NotDue s (event.Take c.args.guest k lane)) a b c.loop-queue.invariant.round _ c.args.turn c.so_far.result c.so_far.ensures
+    c.if-done-turn.true c.requires.some
 
 pub returns-then-stopped-clause-pass : goal.returns-then-stopped-clause-pass
 returns-then-stopped-clause-pass g c =
@@ -50,7 +54,9 @@ returns-then-stopped-clause-pass g c =
     let b : Scene = scene c.loop-queue.self (g.C.MemoryCell.bytes c.loop-queue.memory) in
     let n : Scene = scene c.take_from-pass.new.self (g.C.MemoryCell.bytes c.take_from-pass.new.memory) in
     let w : Worked = c.take_from-pass.result in
-    round-stop (scope.Guest c.args.guest) c.args.most c.loop-queue.done c.loop-queue.queue (λ (s : Scene) (k : ℕ). (lane : ℕ) → NotDue s (event.Take c.args.guest k lane)) a b n c.loop-queue.invariant.round _ w c.after-whole.result c.after-whole.ensures c.take_from-pass.ensures.pass (c.has_stopped-stopped.ensures.yes c.if-stopped.true)
+    round-stop (scope.Guest c.args.guest) c.args.most c.loop-queue.done c.loop-queue.queue
+    (λ (s : Scene) (k : ℕ). (lane : ℕ) → NotDue s (event.Take c.args.guest k lane)) a b n c.loop-queue.invariant.round _ w c.after-whole.result c.after-whole.ensures
+    c.take_from-pass.ensures.pass (c.has_stopped-stopped.ensures.yes c.if-stopped.true)
 
 pub loop-queue-preserved : goal.loop-queue-preserved
 loop-queue-preserved g c =
@@ -59,7 +65,9 @@ loop-queue-preserved g c =
     let n : Scene = scene c.take_from-pass.new.self (g.C.MemoryCell.bytes c.take_from-pass.new.memory) in
     let w : Worked = c.take_from-pass.result in
     record {
-      round = round-on (scope.Guest c.args.guest) c.args.most c.loop-queue.done c.loop-queue.queue (λ (s : Scene) (k : ℕ). (lane : ℕ) → NotDue s (event.Take c.args.guest k lane)) a b n c.loop-queue.invariant.round w c.after-whole.result c.after-whole.ensures c.take_from-pass.ensures.pass (c.has_stopped-stopped.ensures.no c.if-stopped.false);
+      round = round-on (scope.Guest c.args.guest) c.args.most c.loop-queue.done c.loop-queue.queue
+          (λ (s : Scene) (k : ℕ). (lane : ℕ) → NotDue s (event.Take c.args.guest k lane)) a b n c.loop-queue.invariant.round w c.after-whole.result
+          c.after-whole.ensures c.take_from-pass.ensures.pass (c.has_stopped-stopped.ensures.no c.if-stopped.false);
       setup = c.take_from-pass.ensures.setup ∙ c.loop-queue.invariant.setup;
       len = c.take_from-pass.ensures.len ∙ c.loop-queue.invariant.len;
     }
@@ -69,7 +77,8 @@ returns-clause-pass g c =
     let a : Scene = scene c.args.self.now (g.C.MemoryCell.bytes c.args.memory.now) in
     let b : Scene = scene c.loop-queue.self (g.C.MemoryCell.bytes c.loop-queue.memory) in
     let end = c.loop-queue-test.false in
-    round-end (scope.Guest c.args.guest) c.args.most c.loop-queue.done c.loop-queue.queue (λ (s : Scene) (k : ℕ). (lane : ℕ) → NotDue s (event.Take c.args.guest k lane)) a b c.loop-queue.invariant.round _ c.so_far-2.result c.so_far-2.ensures
+    round-end (scope.Guest c.args.guest) c.args.most c.loop-queue.done c.loop-queue.queue
+    (λ (s : Scene) (k : ℕ). (lane : ℕ) → NotDue s (event.Take c.args.guest k lane)) a b c.loop-queue.invariant.round _ c.so_far-2.result c.so_far-2.ensures
     (λ below queue lane. elim (cases_lt queue 9) [
       | inl less ↦ below queue (omega (arith, less, end)) lane
       | inr high ↦ no_queue-take a c.args.guest queue lane (too_high queue high)

@@ -8,7 +8,8 @@ use Rattle.nv_host.proofs.host_mediator.HostMediator.take_queues.Given as goal
 abbrev pub invariant-loop-queue : goal.invariant-loop-queue
 invariant-loop-queue g l =
     record {
-      round : IsRound (scope.Guest l.guest) l.most l.done l.queue (λ (s : Scene) (k : ℕ). (lane : ℕ) → NotDue s (event.Take l.guest k lane)) (scene l.fn.self (g.C.MemoryCell.bytes l.fn.memory)) (scene l.self (g.C.MemoryCell.bytes l.memory));
+      round : IsRound (scope.Guest l.guest) l.most l.done l.queue (λ (s : Scene) (k : ℕ). (lane : ℕ) → NotDue s (event.Take l.guest k lane))
+          (scene l.fn.self (g.C.MemoryCell.bytes l.fn.memory)) (scene l.self (g.C.MemoryCell.bytes l.memory));
       setup : l.self.setup ≡ l.fn.self.setup;
       len : length (g.C.MemoryCell.bytes l.memory) ≡ length (g.C.MemoryCell.bytes l.fn.memory);
     }
