@@ -70,6 +70,9 @@ typedef struct guest {
     uint8_t *memory;
 } guest;
 
+/* What was seen of all guests' vectors. */
+static nvmed_seen seen;
+
 static void make_entry(uint8_t *entry, uint32_t opcode, uint64_t prp1, uint32_t cdw10, uint32_t cdw11) {
     memset(entry, 0, 64);
     put32(entry, opcode | 7u << 16);
@@ -97,6 +100,13 @@ static void send(nvmed *m, guest *g, uint32_t opcode, uint32_t block) {
     failed("doorbell", nvmed_doorbell(m, g->number, 0x1008, g->sent));
 }
 
+/* The guests of whom other vectors are pending than before, as bits. A host with many guests asks this once, and then for the vectors of those. */
+static unsigned changed(nvmed *m) {
+    uint32_t guests = 0;
+    failed("changed", nvmed_changed(m, &seen, &guests));
+    return (unsigned)guests;
+}
+
 /* The status of the last command, and the vectors that are pending; the completion is acknowledged. */
 static void finish(nvmed *m, guest *g, const char *what) {
     const uint8_t *entry = g->memory + IO_CQ + 16 * (uint64_t)(g->sent - 1);
@@ -105,8 +115,9 @@ static void finish(nvmed *m, guest *g, const char *what) {
     failed("pending", nvmed_pending(m, g->number, vectors, &count));
     printf("guest %u: %s: status %x, vectors that are pending:", (unsigned)g->number, what, (unsigned)(get32(entry + 12) >> 17 & 0x7ff));
     for (uint32_t i = 0; i < count; i++) printf(" %u", (unsigned)vectors[i]);
-    printf("\n");
+    printf(", of guests %x", changed(m));
     failed("doorbell", nvmed_doorbell(m, g->number, 0x100c, g->sent));
+    printf(", and of guests %x once it is acknowledged\n", changed(m));
 }
 
 int main(void) {

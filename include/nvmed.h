@@ -53,7 +53,7 @@ extern "C" {
 /* The version of this interface. Its major number changes when a call or a struct changes or goes: programs must be compiled anew. Its minor number
  * changes when calls are added: programs that were compiled before go on as they are. NVMED_VERSION is both in one number, which may be compared. */
 #define NVMED_VERSION_MAJOR 2
-#define NVMED_VERSION_MINOR 0
+#define NVMED_VERSION_MINOR 1
 #define NVMED_VERSION (NVMED_VERSION_MAJOR * 65536u + NVMED_VERSION_MINOR)
 
 /* What a call returns. All but NVMED_OK are errors. */
@@ -165,6 +165,11 @@ typedef struct nvmed_lane_rings {
 /* The most vectors of a guest: one of each of its completion queues, the admin queue's among them. */
 enum { NVMED_VECTORS = 9 };
 
+/* The vectors of all guests as nvmed_changed saw them last: all zero before its first call. What they are is the library's own. */
+typedef struct nvmed_seen {
+    uint32_t vectors[16][NVMED_VECTORS];
+} nvmed_seen;
+
 /* Of whom nvmed_work does what is due. */
 typedef enum nvmed_scope { NVMED_OF_GUEST = 1, NVMED_OF_LANE = 2, NVMED_OF_ALL = 3 } nvmed_scope;
 
@@ -184,6 +189,7 @@ uint32_t nvmed_raw_due(nvmed_handle *, const nvmed_event *, uint32_t *, const ui
 uint32_t nvmed_raw_work(nvmed_handle *, uint32_t, uint32_t, uint64_t, uint64_t *, uint8_t *, size_t);
 uint32_t nvmed_raw_rings(nvmed_handle *, uint32_t, nvmed_lane_rings *);
 uint32_t nvmed_raw_pending(nvmed_handle *, uint32_t, uint32_t, uint32_t *);
+uint32_t nvmed_raw_seen(nvmed_handle *, uint32_t, uint32_t *, size_t);
 uint32_t nvmed_raw_close(nvmed_handle *, uint32_t, uint8_t *, size_t);
 uint32_t nvmed_raw_memory(nvmed_handle *, uint32_t, uint64_t, uint8_t *, size_t, const uint8_t **, uint64_t *);
 uint32_t nvmed_raw_block(nvmed_handle *, uint64_t, const uint8_t **);
@@ -334,6 +340,23 @@ static inline nvmed_status nvmed_pending(nvmed *m, uint32_t guest, uint16_t vect
         if (status == NVMED_OK) vectors[(*count)++] = (uint16_t)vector;
     }
     return status == NVMED_IDLE ? NVMED_OK : status;
+}
+
+/* Of which guests other vectors are pending than when it was called last with *seen: bit g of *guests for guest g. So a host with many idle guests asks
+ * once, and then nvmed_pending for those. Each caller has a nvmed_seen of its own, which begins with zeros, and is used with one mediator. It costs the same
+ * whatever there is. SAFE, EXACT (of each guest; the loop over them is a line of this header).
+ * Errors: NULL, NO_MEDIATOR, NO_SUCH (the mediator is a simulation); *guests is 0 then, and *seen as it was. */
+static inline nvmed_status nvmed_changed(nvmed *m, nvmed_seen *seen, uint32_t *guests) {
+    uint32_t guest;
+    nvmed_status status = NVMED_OK;
+    if (!m || !seen || !guests) return NVMED_NULL;
+    *guests = 0;
+    for (guest = 0; guest < 16 && (status == NVMED_OK || status == NVMED_IDLE); guest++) {
+        status = (nvmed_status)nvmed_raw_seen(&m->handle, guest, seen->vectors[guest], NVMED_VECTORS);
+        if (status == NVMED_OK) *guests |= (uint32_t)1 << guest;
+    }
+    /* the first number that is no guest's ends the loop */
+    return status == NVMED_IDLE || status == NVMED_IGNORED ? NVMED_OK : status;
 }
 
 /* Closes a lane, where the drive can't be relied on any more. The host has stopped the drive before. Completions that are there are read as long as they

@@ -62,9 +62,11 @@ static void set_ups(void) {
 /* The calls that are for a host alone, on a handle that is null, that holds nothing, or that holds a simulation. */
 static void not_for(nvmed *m, nvmed_status status) {
     nvmed_lane_rings rings;
+    nvmed_seen seen;
     uint16_t vectors[NVMED_VECTORS];
-    uint32_t some = 7;
+    uint32_t some = 7, changed = 7;
     memset(&rings, 0x5a, sizeof rings);
+    memset(&seen, 0x5a, sizeof seen);
     for (int i = 0; i < NUMBERS; i++) {
         uint32_t n = numbers[i];
         nvmed_status answer = n > 255 && status != NVMED_NULL ? NVMED_NO_SUCH : status;
@@ -72,20 +74,26 @@ static void not_for(nvmed *m, nvmed_status status) {
         want("close", answer, nvmed_close(m, n));
         want("pending", answer, nvmed_pending(m, n, vectors, &some));
         left("rings and pending", rings.entries == 0x5a5a5a5a && (status == NVMED_NULL || some == 0));
+        want("changed", status, nvmed_changed(m, &seen, &changed));
+        left("changed", seen.vectors[n % 16][n % NVMED_VECTORS] == 0x5a5a5a5a && (status == NVMED_NULL || changed == 0));
     }
 }
 
 /* Null pointers beside a handle that serves, and numbers of lanes and guests. */
 static void numbers_everywhere(nvmed *m) {
     nvmed_lane_rings rings;
+    nvmed_seen seen;
     uint16_t vectors[NVMED_VECTORS];
     uint32_t count = 7, word;
     uint64_t done;
     const uint8_t *at;
     uint8_t bytes[8];
+    memset(&seen, 0, sizeof seen);
     want("rings", NVMED_NULL, nvmed_rings(m, 0, NULL));
     want("pending", NVMED_NULL, nvmed_pending(m, 0, NULL, &count));
     want("pending", NVMED_NULL, nvmed_pending(m, 0, vectors, NULL));
+    want("changed", NVMED_NULL, nvmed_changed(m, NULL, &count));
+    want("changed", NVMED_NULL, nvmed_changed(m, &seen, NULL));
     want("a second mediator", NVMED_IN_USE, nvmed_serve(m, memory, &good, limits, 1, regions, 1, extents, 1));
     want("a simulation beside it", NVMED_IN_USE, nvmed_new(m, &good, limits, 1, regions, 1, extents, 1));
     for (int i = 0; i < NUMBERS; i++) {
@@ -116,6 +124,11 @@ static void numbers_everywhere(nvmed *m) {
         left("store and load", whole != NVMED_OK || (bytes[0] == (uint8_t)i && memory[0x100000 + p] == (uint8_t)i));
         want("rings", (uint32_t)p ? NVMED_NO_SUCH : NVMED_OK, nvmed_rings(m, (uint32_t)p, &rings));
         want("pending", (uint32_t)p > 255 ? NVMED_NO_SUCH : (uint32_t)p ? NVMED_IGNORED : NVMED_OK, nvmed_pending(m, (uint32_t)p, vectors, &count));
+        seen.vectors[0][i % NVMED_VECTORS] = seen.vectors[1][0] = (uint32_t)p;
+        want("changed", NVMED_OK, nvmed_changed(m, &seen, &count));
+        left("changed", count == ((uint32_t)p != 0) && seen.vectors[0][i % NVMED_VECTORS] == 0 && seen.vectors[1][0] == (uint32_t)p);
+        want("changed", NVMED_OK, nvmed_changed(m, &seen, &count));
+        left("changed", count == 0);
         want("memory", NVMED_NO_SUCH, nvmed_memory(m, 0, p, bytes, sizeof bytes, &at, &done));
         want("block", NVMED_NO_SUCH, nvmed_block(m, p, &at));
         want("kept", NVMED_NO_SUCH, nvmed_kept(m, p, &word));

@@ -6,3 +6,4 @@ pub mod Rests
 pub mod Works
 pub mod ListJobs
 pub mod Readings
+pub mod Seen

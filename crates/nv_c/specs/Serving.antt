@@ -1,5 +1,5 @@
 -- What a call from C does to a mediator that is lent the host's memory, and what its answer says.
-use Rattle.std.specs.Prelude.{◌≡◌, ◌⊎◌, ◌<◌, ◌≤◌, ℕ, true, false, ◌&&◌, if◌then◌else◌, IsTrue, List, Option, Some, None, option_map, slice_get, slice_set}
+use Rattle.std.specs.Prelude.{◌≡◌, ◌+◌, ◌≢◌, ◌⊎◌, ◌<◌, ◌≤◌, ℕ, true, false, ◌&&◌, if◌then◌else◌, IsTrue, length, List, map, Option, Some, None, option_map, slice_get, slice_set}
 use Rattle.nv_c.specs.Calls.{closed, dword_told, idle, ignored, no_memory, no_such, ok, status_of, stray}
 use Rattle.nv_c.specs.Names.{Names}
 use Rattle.nv_c.specs.declared.event.Event as c
@@ -18,7 +18,7 @@ use Rattle.nv_host.specs.declared.worked.Why.{Why}
 use Rattle.nv_host.specs.declared.worked.Why.TheVariants as why
 use Rattle.nv_host.specs.declared.worked.Worked.{Worked}
 use Rattle.nv_mediator.specs.Hosted.{Hosted, may_want}
-use Rattle.nv_model.specs.Controller.{Controller, pending}
+use Rattle.nv_model.specs.Controller.{Controller, pending, queue_count}
 use Rattle.nv_model.specs.declared.reply.Reply.{Reply}
 use Rattle.nv_model.specs.declared.reply.Reply.TheVariants as reply
 use Rattle.nv_world_model.specs.Area.{completion_slot, ring_size, submission_slot}
@@ -127,6 +127,23 @@ IsRaised queue (Some c) before after status = IsVector (slice_get (pending c) qu
 abbrev pub IsRaisedTold : (guest queue before after : ℕ) → (old : Served) → (status : ℕ) → (new : Served) → Type 0
 IsRaisedTold guest queue before after old status new = (new ≡ old) × IsRaised queue (slice_get old.side.controllers guest) before after status
 
+-- a vector as a host keeps it: counted from 1, and 0 where there is none
+abbrev pub vector_kept : Option ℕ → ℕ
+vector_kept None = 0
+vector_kept (Some vector) = vector + 1
+
+-- the vectors of a guest's completion queues, of which these were kept, are kept now; it was reported whether they are others; or there is no such guest, or
+-- there is no room for exactly these
+abbrev pub IsSeen : Option Controller → (before after : List ℕ) → (status : ℕ) → Type 0
+IsSeen None before after status = (status ≡ ignored) × (after ≡ before)
+IsSeen (Some c) before after status =
+    (length before ≢ queue_count) × (status ≡ no_such) × (after ≡ before)
+    ⊎ (after ≡ map vector_kept (pending c)) × ((status ≡ idle) × (after ≡ before) ⊎ (status ≡ ok) × (after ≢ before))
+
+-- and nothing has changed
+abbrev pub IsSeenTold : (guest : ℕ) → (before after : List ℕ) → (old : Served) → (status : ℕ) → (new : Served) → Type 0
+IsSeenTold guest before after old status new = (new ≡ old) × IsSeen (slice_get old.side.controllers guest) before after status
+
 -- a lane was closed
 pub record IsShut (lane : ℕ) (before after : List ℕ) (old new : Served) : Type 0 where
   pub there : lane < old.setup.lanes
@@ -152,5 +169,8 @@ abbrev pub HasNoLane : (old : Hosted) → (status : ℕ) → (new : Hosted) → 
 HasNoLane old status new = (status ≡ no_such) × (new ≡ old)
 
 -- and it says nothing of interrupts
+abbrev pub HasNoVectors : (before after : List ℕ) → (old : Hosted) → (status : ℕ) → (new : Hosted) → Type 0
+HasNoVectors before after old status new = (status ≡ no_such) × (new ≡ old) × (after ≡ before)
+
 abbrev pub HasNoVector : (before after : ℕ) → (old : Hosted) → (status : ℕ) → (new : Hosted) → Type 0
 HasNoVector before after old status new = (status ≡ no_such) × (new ≡ old) × (after ≡ before)

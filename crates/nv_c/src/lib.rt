@@ -10,8 +10,9 @@
 //! `handle/parts`), and one that gives the address of what is shown, are proved about pointers. Null is tested in the header, since a function here
 //! that tests a pointer would be one more of these.
 //!
-//! `nvmed_work` chooses what is due in the world as it is, which changes nothing, and then carries it out. It keeps nothing from call to call. The
-//! slot of the physical controller that was served last comes first. While others have something to do, a guest gets 64 events in a row at most.
+//! Of a simulation `nvmed_work` chooses what is due in the world as it is, which changes nothing, and then carries it out. It keeps nothing from call to
+//! call. The slot of the physical controller that was served last comes first. While others have something to do, a guest gets 64 events in a row at
+//! most. Over the host's memory it is `HostMediator::work` of `nv_host`.
 //!
 //! This is a crate of its own because it is a static library: what else it needs is in `nv_mediator` and below. `docs/EMBEDDING.md` has what the
 //! contracts don't say.
@@ -22,7 +23,7 @@ ghost use Rattle.nv_c.specs.Calls.{Either, HasNone, IsBlockTold, IsDone, IsError
 ghost use Rattle.nv_c.specs.Calls.{IsRead, IsCleared, IsServing, IsStepped, IsWorkTold, Lent, OfGuest, On, no_mediator, no_such};
 ghost use Rattle.nv_c.specs.Names.{NamesNone};
 ghost use Rattle.nv_c.specs.Serving.{IsLoaded as IsLoadedLent, IsNamedStep as IsNamedStepLent, IsNamedTold as IsNamedToldLent, IsRead as IsReadLent};
-ghost use Rattle.nv_c.specs.Serving.{IsWorkLent, HasNoLane, HasNoRings, HasNoVector, IsClosed, IsRaisedTold, IsRingsTold, IsServed, IsStepped as IsSteppedLent};
+ghost use Rattle.nv_c.specs.Serving.{IsWorkLent, HasNoLane, HasNoRings, HasNoVector, HasNoVectors, IsClosed, IsRaisedTold, IsRingsTold, IsSeenTold, IsServed, IsStepped as IsSteppedLent};
 ghost use Rattle.nv_c.specs.Tables.{setup_of};
 ghost use Rattle.nv_c.specs.Views.{IsShown};
 ghost use Rattle.nv_c.specs.Work.{scope_numbered};
@@ -54,13 +55,13 @@ use simulated::Simulated;
 use std::alloc::Global;
 use working::Scope;
 
-/// Version 2.0.
-const VERSION: u32 = 131_072;
+/// Version 2.1.
+const VERSION: u32 = 131_073;
 
 /// The version of the interface: its major number times 65,536, plus its minor number.
 #[unsafe(no_mangle)]
 pub extern "C" fn nvmed_raw_version() -> u32
-    ensures { result ≡ 131072 }
+    ensures { result ≡ 131073 }
 {
     VERSION
 }
@@ -352,6 +353,25 @@ pub extern "C" fn nvmed_raw_pending(
 {
     match event::byte(guest) {
         Some(guest) => interrupts::vector(alloc, handle, guest, queue, vector),
+        None => status::NO_SUCH,
+    }
+}
+
+/// Whether the vectors that a guest's completion queues raise, 9 of them, are others than those that are kept: OK where they are, and they are kept then;
+/// IDLE where not. A vector is kept as one more than its number, and none as 0. After any other answer they are as they were.
+#[unsafe(no_mangle)]
+pub extern "C" fn nvmed_raw_seen(
+    alloc: Global,
+    handle: &mut Nvmed,
+    guest: u32,
+    vectors: &mut [u32],
+) -> u32
+    ensures value { OfGuest guest (Either (HasNoVectors vectors.old vectors.new) (IsSeenTold guest vectors.old vectors.new))
+        handle.old.hosted result handle.new.hosted }
+    ensures unchanged { IsError result → vectors.new ≡ vectors.old }
+{
+    match event::byte(guest) {
+        Some(guest) => interrupts::seen(alloc, handle, guest, vectors),
         None => status::NO_SUCH,
     }
 }
