@@ -14,6 +14,7 @@
 #include "mediation.h"
 
 enum { ENDED = 0, FAILED = 1, USAGE = 2, DRIVE_FAILED = 3, POLLS = 3 * CONFIG_GUESTS, TICK = 1000 /* milliseconds */ };
+enum { SPIN = 100 /* microseconds that a drive with commands is looked at without a pause */, NAP = 50 /* and the pauses after that */ };
 
 typedef struct host {
     config config;
@@ -146,15 +147,21 @@ static bool is_any_left(host *h) {
     return any;
 }
 
+/* How long guests may be waited for. A drive that has commands is looked at again soon: its completions lie in memory, and nothing says that they came. */
+static struct timespec longest_pause(const mediation *m) {
+    if (mediation_flying(m) == 0) return (struct timespec){TICK / 1000, 0};
+    return (struct timespec){0, clock_microseconds() - m->moved < SPIN ? 0 : NAP * 1000};
+}
+
 /* Until a signal comes, no guest is left, or the drive has failed and the guests were answered. The status of the program. */
 static int run(host *h) {
     struct pollfd polls[POLLS];
     reason r;
     uint64_t last = clock_milliseconds(), failed = 0;
     while (!stopping && is_any_left(h)) {
+        struct timespec most = longest_pause(&h->mediation);
         fill(h, polls);
-        /* a drive that has commands is looked at again at once: its completions lie in memory */
-        int ready = poll(polls, 3 * h->guests, mediation_flying(&h->mediation) ? 0 : TICK);
+        int ready = ppoll(polls, 3 * h->guests, &most, NULL);
         if (ready < 0 && errno != EINTR) break;
         for (unsigned i = 0; ready > 0 && i < h->guests; i++) serve(h, &h->guest[i], polls + 3 * i);
         bool good = mediation_work(&h->mediation, &r);

@@ -107,6 +107,7 @@ bool mediation_work(mediation *m, reason *r) {
         for (unsigned i = 0; i < m->lanes; i++)
             if (!ring(m, i, r)) return give_up(m);
         moved = drive_work(m->disk, EVENTS);
+        if (done || moved) m->moved = clock_microseconds();
     } while (done || moved);
     return true;
 }

@@ -25,6 +25,7 @@ typedef struct mediation {
     statistics *counts;    /* of what the drive is given; NULL: nothing is counted */
     unsigned lanes;
     mediation_lane lane[NVME_LANES];
+    uint64_t moved; /* when something was done last: microseconds */
 } mediation;
 
 /* Opens the drive, makes the mediator, and creates the lanes' queues. Where it fails nothing is left open. What the drive is given is not counted: who wants
