@@ -10,17 +10,12 @@ rounds=1000000
 small=64
 # of the first guest, that the drive cannot read in one of the runs
 bad=4096
+# QEMU's words for a guest without Linux, whose firmware boots from its drive
+firmware=(qemu-system-x86_64 -accel "$accelerator" -display none -serial "file:$room/serial.0" -net none)
 
-# Waits until a guest's serial port has a line; not after so many seconds.
-waits_for() {
-    local end=$((SECONDS + $3))
-    until [[ -f $room/serial.$1 ]] && tr -d '\r' < "$room/serial.$1" | grep -qFx "$2"; do
-        ((SECONDS < end)) || return 1
-        sleep 0.3
-    done
-}
-
-make_busy() {
+# The drive's image, with guest 0's blocks for bench/vm/busy.S.
+paint_busy() {
+    paint
     cc -c "$top/bench/vm/busy.S" -o "$room/busy.o"
     ld -m elf_x86_64 -Ttext=0x7c00 --oformat=binary "$room/busy.o" -o "$room/busy"
     dd if="$room/busy" of="$room/image" seek="$(begin_of 0)" conv=notrunc status=none
@@ -29,8 +24,7 @@ make_busy() {
 # A QEMU for guest 0, which listens, until it is busy; then it is killed.
 killed_once() {
     rm -f "$room/serial.0"
-    "$top/host/out/nvmed-host" --join "$shared/guest0" "$shared/small" qemu-system-x86_64 -accel "$accelerator" -display none \
-        -serial file:"$room/serial.0" -net none &
+    "$top/host/out/nvmed-host" --join "$shared/guest0" "$shared/ram0" "${firmware[@]}" &
     local status=0 qemu=$!
     waits_for 0 busy 60 || status=1
     sleep 0.$((RANDOM % 10))
@@ -42,12 +36,10 @@ killed_once() {
 # Guest 0 is killed in the middle of its reads and writes, again and again, while guest 1 is at work.
 killed() {
     local it
-    paint
-    make_busy
+    paint_busy
     {
         echo "drive ram $(stat -c %s "$room/image") $room/image"
-        guest_lines 0 none "" "$shared/small" | sed "/^start/d; s/ memory ${memory}M / memory ${small}M /"
-        echo "listen 0 $shared/guest0"
+        listening_lines 0 "$shared/ram0"
         guest_lines 1 files ""
     } > "$room/configuration"
     rm -f "$shared"/*
@@ -57,30 +49,51 @@ killed() {
         sleep 0.1
     done
     for ((it = 1; it <= kills; it++)); do check "guest 0 is busy before its kill $it" killed_once; done
-    check "guest 1 goes on beside it" waits_for 1 "guest 1: passed" $((limit - SECONDS))
+    check "guest 1 goes on beside it" has_passed 1
     check "guest 0 was lost each time" test "$(grep -c '^nvmed-host: guest 0: ' "$room/host")" == "$kills"
-    kill "$host"
-    check "the host program ends" host_ended 0
+    check "the host program ends" end_host
     check "the blocks that are no guest's" gaps_are_painted
+}
+
+# The drive is that of a QEMU, with further words, and guest 0 is busy on it.
+begin_failing() {
+    nodes=("area 32" "ram0 $small")
+    paint_busy
+    {
+        echo "drive qemu $shared/qtest $shared/area"
+        echo "guest 0 memory ${small}M $shared/ram0"
+        extent_lines 0
+        echo "start 0 ${firmware[*]}"
+    } > "$room/configuration"
+    begin_image "$@"
+    begin_host "$room/configuration"
+    check "guest 0 is busy before its drive fails" waits_for 0 busy 60
+}
+
+# Reports whether the program saw that, and how it says so.
+has_failed() {
+    check "the host program ends with the status of a drive that failed" host_ended 3
+    check "and says why: $1" grep -q "^nvmed-host: the drive: .*$1" "$room/host"
+    end_drive
 }
 
 # The drive's process stands still.
 silent() {
-    nodes=("area 32" "ram0 $small")
-    paint
-    make_busy
-    {
-        echo "drive qemu $shared/qtest $shared/area"
-        guest_lines 0 none "" "$shared/ram0" | sed "/^start/d; s/ memory ${memory}M / memory ${small}M /"
-        echo "start 0 qemu-system-x86_64 -accel $accelerator -display none -serial file:$room/serial.0 -net none"
-    } > "$room/configuration"
-    begin_image
-    begin_host "$room/configuration"
-    check "guest 0 is busy before its drive stops" waits_for 0 busy 60
+    begin_failing
     kill -STOP "$emulator"
-    check "the host program ends with the status of a drive that failed" host_ended 3
-    check "and says that it did not answer" grep -q "^nvmed-host: the drive: .*QEMU does not answer in time" "$room/host"
-    end_drive
+    has_failed "QEMU does not answer in time"
+}
+
+# The drive may no longer reach memory: it shows a fatal status, as QEMU's controller does where it cannot read an entry. Its configuration space is written by
+# its monitor: the address of the command register, and then memory accesses without bus mastering.
+fatal() {
+    local slot
+    mkfifo "$room/monitor.in" "$room/monitor.out"
+    begin_failing -chardev pipe,id=monitor,path="$room/monitor" -mon chardev=monitor
+    slot=$(sed -n 's/^nvmed-host: the drive: of QEMU at 00:\([0-9a-f]*\)\..*/0x\1/p' "$room/host")
+    printf 'o /w 0xcf8 %#x\no /h 0xcfc 2\n' $((0x80000004 | slot << 11)) > "$room/monitor.in"
+    has_failed "shows a fatal status (CSTS.CFS)"
+    check "guest 0's command has ended with an error" says 0 failed
 }
 
 # The drive cannot read a block of guest 0's.
@@ -95,9 +108,10 @@ media() {
     } > "$room/configuration"
     begin_drive -blockdev "driver=blkdebug,node-name=disk,image.driver=file,image.filename=$room/image,inject-error.0.event=none,inject-error.0.iotype=read,\
 inject-error.0.sector=$sector,inject-error.0.errno=5,inject-error.0.once=off"
-    check "the host program, on a drive with a bad block" host "$room/configuration"
-    check "guest 0 sees its bad block, and reads those beside it" says 0 "guest 0: passed"
-    check "guest 1 reads all of its blocks" says 1 "guest 1: passed"
+    begin_host "$room/configuration"
+    check "guest 0 sees its bad block, and reads those beside it" has_passed 0
+    check "guest 1 reads all of its blocks" has_passed 1
+    check "the host program, on a drive with a bad block" host_ended 0
     end_drive
 }
 
@@ -110,8 +124,10 @@ messages() {
 }
 
 run() {
-    check "$rounds rounds of random input for the transport and the configuration" messages
+    make_system
     silent
+    fatal
     media
     killed
+    check "$rounds rounds of random input for the transport and the configuration" messages
 }
