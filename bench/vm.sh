@@ -30,12 +30,13 @@ cache=${VM_CACHE:-${XDG_CACHE_HOME:-$HOME/.cache}/nvmed-vm}
 accelerator=tcg
 # shellcheck disable=SC2034
 [[ -z ${KVM:-} ]] || accelerator=kvm
+# VALGRIND=1 runs the program under valgrind: what that finds is a failure
+wrapper=()
+[[ -z ${VALGRIND:-} ]] || wrapper=(valgrind --quiet --leak-check=full --show-leak-kinds=all --error-exitcode=9)
 # of a run, in seconds
 limit=600
 passed=0
 failed=0
-# processes of this script's, to be ended with it
-started=()
 
 stop() {
     echo "bench/vm.sh: $1" >&2
@@ -51,7 +52,9 @@ stop() {
 room=$(mktemp -d)
 shared=$(mktemp -d /dev/shm/nvmed-vm.XXXXXX)
 leave() {
-    [[ ${#started[@]} == 0 ]] || kill "${started[@]}" 2> /dev/null || true
+    local it
+    # one of them may stand still
+    for it in $(jobs -pr); do kill -TERM "$it" 2> /dev/null || true; kill -CONT "$it" 2> /dev/null || true; done
     rm -rf "$room" "$shared"
 }
 trap leave EXIT
@@ -96,9 +99,8 @@ make_test() {
 # $room/host.
 begin_host() {
     rm -f "$room"/serial.*
-    "$top/host/out/nvmed-host" "${@:2}" "$1" 2> "$room/host" &
+    "${wrapper[@]}" "$top/host/out/nvmed-host" "${@:2}" "$1" 2> "$room/host" &
     host=$!
-    started+=("$host")
 }
 
 # Waits for its end, as long as the run may take, and reports whether it had this status.

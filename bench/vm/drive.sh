@@ -31,7 +31,6 @@ begin_drive() {
     qemu-system-x86_64 -nodefaults -no-user-config -display none -machine q35,accel=tcg -bios "$room/rom" -m "${total}M" "${words[@]}" "$@" \
         -device nvme,drive=disk,serial=shared,max_ioqpairs=8 -qtest unix:"$shared/qtest",server=on,wait=off -qtest-log /dev/null 2> "$room/drive" &
     emulator=$!
-    started+=("$emulator")
     for _ in {1..100}; do
         [[ ! -S $shared/qtest ]] || return 0
         sleep 0.1
@@ -40,7 +39,7 @@ begin_drive() {
 }
 
 begin_image() {
-    begin_drive -drive file="$room/image",format=raw,if=none,id=disk "$@"
+    begin_drive -drive file="$room/image",format=raw,if=none,id=disk,discard=unmap "$@"
 }
 
 run() {

@@ -71,7 +71,6 @@ has_passed() {
 begin_hostile() {
     "$top/host/out/guest_live" hostile "$shared/guest$1" "$shared/ram$1" "$RANDOM" > "$room/hostile" 2>&1 &
     hostile=$!
-    started+=("$hostile")
 }
 
 # Ends it, and reports whether its controller still worked at last, after one round or more.
