@@ -30,7 +30,7 @@ cache=${VM_CACHE:-${XDG_CACHE_HOME:-$HOME/.cache}/nvmed-vm}
 accelerator=tcg
 # shellcheck disable=SC2034
 [[ -z ${KVM:-} ]] || accelerator=kvm
-# VALGRIND=1 runs the program under valgrind: what that finds is a failure
+# VALGRIND=1 runs the program under valgrind, SANITIZE=1 takes one that host/build makes with sanitizers: what these find is a failure
 wrapper=()
 [[ -z ${VALGRIND:-} ]] || wrapper=(valgrind --quiet --leak-check=full --show-leak-kinds=all --error-exitcode=9)
 # of a run, in seconds
@@ -89,10 +89,11 @@ make_host() {
 
 # Builds a program of host/tests, with these further files of it, over the modules.
 make_test() {
-    local name=$1
+    local name=$1 flags=(-std=c11 -D_GNU_SOURCE -O2 -g -Wall -Wextra -Werror)
     shift
-    (cd "$top/host" && "$(command -v clang || command -v cc)" -std=c11 -D_GNU_SOURCE -O2 -g -Wall -Wextra -Werror -I. "tests/$name.c" "$@" out/libhost.a \
-        -o "out/$name") > "$room/built" 2>&1 || stop "host/tests/$name.c was not built: $(tail -n 1 "$room/built")"
+    [[ -z ${SANITIZE:-} ]] || flags+=(-fsanitize=address -fsanitize=undefined)
+    (cd "$top/host" && "$(command -v clang || command -v cc)" "${flags[@]}" -I. "tests/$name.c" "$@" out/libhost.a -o "out/$name") > "$room/built" 2>&1 ||
+        stop "host/tests/$name.c was not built: $(tail -n 1 "$room/built")"
 }
 
 # Starts the host program on a configuration, with further words before it, beside this script, which a signal then ends at once. What it reports is in
