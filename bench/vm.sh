@@ -71,6 +71,14 @@ check() {
     fi
 }
 
+# Runs a command, and shows what it printed where it failed.
+quietly() {
+    "$@" > "$room/output" 2>&1 || {
+        cat "$room/output"
+        return 1
+    }
+}
+
 # Installs what is missing of files, each with the package of Debian that has it: PATH:PACKAGE, or a command's name for its path.
 need() {
     local it missing=()

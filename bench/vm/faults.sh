@@ -6,6 +6,8 @@ source "$top/bench/vm/drive.sh"
 
 kills=10
 rounds=1000000
+# of an access of a register, in milliseconds
+patience=200
 # of the guest whose processor runs bench/vm/busy.S, in MiB
 small=64
 # of the first guest, that the drive cannot read in one of the runs
@@ -115,19 +117,33 @@ inject-error.0.sector=$sector,inject-error.0.errno=5,inject-error.0.once=off"
     end_drive
 }
 
-# Random and truncated messages, with sanitizers.
-messages() {
-    ROUNDS=$rounds "$top/host/test" > "$room/messages" || {
-        cat "$room/messages"
-        return 1
-    }
+# A guest whose lists have no end, beside one that works: that one's accesses, for which its processor would wait, are answered soon all the same.
+endless() {
+    local turn longest
+    {
+        echo "drive ram $(stat -c %s "$room/image") $room/image"
+        listening_lines 0 "$shared/ram0"
+        listening_lines 1 "$shared/ram1"
+    } > "$room/configuration"
+    rm -f "$shared"/*
+    begin_host "$room/configuration"
+    "$top/host/out/guest_live" endless "$shared/guest1" "$shared/ram1" > "$room/endless" &
+    turn=$!
+    check "guest 0 works beside it" quietly "$top/host/out/guest_live" works "$shared/guest0" "$shared/ram0"
+    kill "$turn"
+    check "guest 1 ends" wait "$turn"
+    check "the host program ends" end_host
+    longest=$(sed -n 's/.*the longest access: \([0-9]*\) ms/\1/p' "$room/endless")
+    check "no access takes longer than $patience ms, but $longest" test "$longest" -le "$patience"
 }
 
 run() {
+    make_test guest_live tests/proxied.c tests/hostile.c
     make_system
     silent
     fatal
     media
     killed
-    check "$rounds rounds of random input for the transport and the configuration" messages
+    endless
+    check "$rounds rounds of random input for the transport and the configuration, with sanitizers" quietly env ROUNDS="$rounds" "$top/host/test"
 }

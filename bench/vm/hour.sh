@@ -22,7 +22,8 @@ sample() {
     for ((minute = 1; minute <= minutes; minute++)); do
         while ((SECONDS < minute * 60)); do sleep 0.5; done
         kill -0 "$host" 2> /dev/null || return 1
-        echo "minute $minute own $(figure RssAnon) shared $(($(figure RssFile) + $(figure RssShmem))) descriptors $(find "/proc/$host/fd" -mindepth 1 | wc -l)" \
+        echo "minute $minute own $(figure RssAnon) shared $(($(figure RssFile) + $(figure RssShmem)))" \
+            "descriptors $(find "/proc/$host/fd" -mindepth 1 | wc -l)" \
             "processor $(awk -v tick="$(getconf CLK_TCK)" '{ print int(($14 + $15) / tick) }' "/proc/$host/stat")" | tee -a "$room/samples"
     done
 }

@@ -87,10 +87,7 @@ hostile_ended() {
 
 # Writes all blocks of a guest without a machine to a file, as it reads them.
 read_guest() {
-    "$top/host/out/guest_live" reads "$shared/guest$1" "$shared/ram$1" "$room/blocks.$1" > "$room/reads" 2>&1 || {
-        cat "$room/reads"
-        return 1
-    }
+    quietly "$top/host/out/guest_live" reads "$shared/guest$1" "$shared/ram$1" "$room/blocks.$1"
 }
 
 end_host() {

@@ -132,7 +132,7 @@ static void tell(host *h) {
     for (unsigned i = 0; i < h->guests; i++) {
         guest *g = &h->guest[i];
         if (!guest_interrupt(g, &h->mediation, &r)) lose(h, g, &r);
-        if (g->connected && pci_is_shutting(&g->function) && mediation_flying(&h->mediation) == 0) pci_note_idle(&g->function);
+        if (g->connected && pci_is_shutting(&g->function) && mediation_is_idle(&h->mediation)) pci_note_idle(&g->function);
     }
 }
 
@@ -147,10 +147,11 @@ static bool is_any_left(host *h) {
     return any;
 }
 
-/* How long guests may be waited for. A drive that has commands is looked at again soon: its completions lie in memory, and nothing says that they came. */
+/* How long guests may be waited for: not at all where more is due. A drive that has commands is looked at again soon: its completions lie in memory, and
+ * nothing says that they came. */
 static struct timespec longest_pause(const mediation *m) {
-    if (mediation_flying(m) == 0) return (struct timespec){TICK / 1000, 0};
-    return (struct timespec){0, clock_microseconds() - m->moved < SPIN ? 0 : NAP * 1000};
+    if (mediation_is_idle(m)) return (struct timespec){TICK / 1000, 0};
+    return (struct timespec){0, m->due || clock_microseconds() - m->moved < SPIN ? 0 : NAP * 1000};
 }
 
 /* Until a signal comes, no guest is left, or the drive has failed and the guests were answered. The status of the program. */

@@ -4,7 +4,8 @@
 
 #include "clock.h"
 
-enum { CC = 0x14, RING_SLOTS = 65, ENTRY = 64, EVENTS = 4096 /* of one call of the library, so that the drive gets its doorbells soon */ };
+enum { CC = 0x14, RING_SLOTS = 65, ENTRY = 64, EVENTS = 64 /* of one call of the library, so that the drive gets its doorbells soon */ };
+enum { SLICE = 2000 /* microseconds after which guests are looked at again */ };
 
 /* One set-up of the library, with a namespace of each guest's extents. */
 static bool make_mediator(nvmed *m, const config *c, const layout *l, uint8_t *memory, reason *r) {
@@ -95,10 +96,10 @@ static bool give_up(mediation *m) {
 }
 
 bool mediation_work(mediation *m, reason *r) {
-    uint64_t done;
-    unsigned moved;
+    uint64_t done, begin = clock_microseconds();
     do {
         nvmed_status status = nvmed_work(&m->mediator, NVMED_OF_ALL, 0, EVENTS, &done);
+        m->due = done != 0;
         if (!m->disk) return true;
         if (status == NVMED_STRAY) {
             refuse(r, "the drive completed a command that it does not have");
@@ -106,9 +107,9 @@ bool mediation_work(mediation *m, reason *r) {
         }
         for (unsigned i = 0; i < m->lanes; i++)
             if (!ring(m, i, r)) return give_up(m);
-        moved = drive_work(m->disk, EVENTS);
-        if (done || moved) m->moved = clock_microseconds();
-    } while (done || moved);
+        if (drive_work(m->disk, EVENTS)) m->due = true;
+        if (m->due) m->moved = clock_microseconds();
+    } while (m->due && m->moved - begin < SLICE);
     return true;
 }
 
@@ -123,10 +124,10 @@ bool mediation_check(mediation *m, reason *r) {
     return true;
 }
 
-unsigned mediation_flying(const mediation *m) {
-    unsigned sum = 0;
-    for (unsigned i = 0; i < m->lanes; i++) sum += m->lane[i].flying;
-    return sum;
+bool mediation_is_idle(const mediation *m) {
+    unsigned flying = 0;
+    for (unsigned i = 0; i < m->lanes; i++) flying += m->lane[i].flying;
+    return flying == 0 && !m->due;
 }
 
 void mediation_reset(mediation *m, uint32_t guest) { nvmed_reg_write(&m->mediator, guest, CC, 0); }

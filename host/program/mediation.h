@@ -25,6 +25,7 @@ typedef struct mediation {
     statistics *counts;    /* of what the drive is given; NULL: nothing is counted */
     unsigned lanes;
     mediation_lane lane[NVME_LANES];
+    bool due;       /* more may be due at once */
     uint64_t moved; /* when something was done last: microseconds */
 } mediation;
 
@@ -32,15 +33,15 @@ typedef struct mediation {
  * that sets m->counts. */
 bool mediation_open(mediation *m, const config *c, const layout *l, uint8_t *memory, const window *reach, reason *r);
 
-/* Carries out what is due, until nothing is. False, with the reason, where the drive has failed: it is closed then, the lanes are closed, and what was
- * on its way has ended with an error that guests may try again. */
+/* Carries out what is due, until nothing is or some milliseconds are over: m->due says which. False, with the reason, where the drive has failed: it is
+ * closed then, the lanes are closed, and what was on its way has ended with an error that guests may try again. */
 bool mediation_work(mediation *m, reason *r);
 
 /* Looks at the drive itself: whether it still works, and has answered in time. As mediation_work. */
 bool mediation_check(mediation *m, reason *r);
 
-/* How many commands the drive has. */
-unsigned mediation_flying(const mediation *m);
+/* Whether nothing is due and the drive has no command. */
+bool mediation_is_idle(const mediation *m);
 
 /* Ends a guest's controller as a reset does: its queues are gone, and its commands run out. */
 void mediation_reset(mediation *m, uint32_t guest);

@@ -4,6 +4,7 @@
  *     guest_live reads SOCKET FILE BLOCKS     all its blocks, into the file BLOCKS
  *     guest_live hostile SOCKET FILE SEED     random commands, registers, doorbells and resets, and random bytes into its queues all the while, until
  *                                             SIGTERM comes; then the same as `works`
+ *     guest_live endless SOCKET FILE          queues full of Reads whose scatter gather list names itself, until SIGTERM comes
  *
  * The program listens at SOCKET, and FILE is the guest's memory, of at least 32 MiB. It is started by bench/vm.sh. Its blocks 5, 6 and 100 to 355 are
  * overwritten by `works`, all of them by `hostile`. */
@@ -16,6 +17,7 @@
 #include "proxied.h"
 
 enum { COMPARE = 5, READ = 2, COMPARE_FAILURE = 0x285, STATUS = 0x7ff /* code and type of a status */ };
+enum { BY_SGL = 0x40, SEGMENT = 0x20, DESCRIPTOR = 16 /* bytes */, FLIGHT = SLOTS - 1, PAUSE = 500 /* microseconds */ };
 enum { CHUNK = 256 /* blocks of a Read, 32 pages */, CHUNK_PAGES = CHUNK * 512 / PAGE_BYTES };
 
 static volatile sig_atomic_t stopping;
@@ -76,8 +78,6 @@ static void reads(proxied *p, const char *path) {
 /* The connection has to stand all of it, and the controller to work before it and after it. */
 static void hostile(proxied *p, uint64_t seed) {
     static hostile_guest h;
-    struct sigaction end = {.sa_handler = stop};
-    sigaction(SIGTERM, &end, NULL);
     works(p);
     CHECK_MORE(hostile_begin(&h, p, seed, &r), r.text);
     bool good = true;
@@ -89,18 +89,67 @@ static void hostile(proxied *p, uint64_t seed) {
     works(p);
 }
 
+static void put_segment(uint8_t *at) {
+    put64(at, LISTS);
+    put64(at + 8, DESCRIPTOR | (uint64_t)SEGMENT << 56);
+}
+
+/* Fills a lane's ring with such Reads. */
+static void put_endless(lane_state *l) {
+    for (unsigned i = 0; i < FLIGHT; i++) {
+        uint8_t *entry = memory + l->rings.submission + 64 * ((l->tail + i) % SLOTS);
+        memset(entry, 0, 64);
+        entry[0] = READ;
+        entry[1] = BY_SGL;
+        put16(entry + 2, (uint16_t)i);
+        put32(entry + 4, 1);
+        put_segment(entry + 24);
+    }
+    l->tail = (l->tail + FLIGHT) % SLOTS;
+}
+
+/* Takes all completions of a lane. */
+static void take_endless(lane_state *l) {
+    for (unsigned i = 0; i < FLIGHT; i++) {
+        const volatile uint8_t *done = memory + l->rings.completion + 16 * l->head;
+        while ((done[14] & 1) != l->phase && !stopping) clock_pause(PAUSE);
+        l->head = (l->head + 1) % SLOTS;
+        if (l->head == 0) l->phase = !l->phase;
+    }
+}
+
+/* The longest time that an access of a register took is printed. */
+static void endless(proxied *p) {
+    uint64_t rounds = 0;
+    drive *d = begin_drive(p);
+    if (!d) return;
+    put_segment(memory + LISTS);
+    for (bool good = true; good && !stopping; rounds++)
+        for (unsigned lane = 0; lane < 2; lane++) {
+            put_endless(&lanes[lane]);
+            CHECK_MORE(good = good && drive_ring_submission(d, lane, lanes[lane].tail, &r), r.text);
+            take_endless(&lanes[lane]);
+            CHECK_MORE(good = good && drive_ring_completion(d, lane, lanes[lane].head, &r), r.text);
+        }
+    printf("%" PRIu64 " rounds, the longest access: %" PRIu64 " ms\n", rounds, p->longest);
+}
+
 /* Whether the words are one of the forms. */
-static bool is_form(int argc, char **argv, const char *mode, int count) { return argc == count && !strcmp(argv[1], mode); }
+static bool is_form(int argc, char **argv, const char *mode, int count) { return argc == count && strcmp(argv[1], mode) == 0; }
 
 int main(int argc, char **argv) {
     proxied p;
+    struct sigaction end = {.sa_handler = stop};
     bool work = is_form(argc, argv, "works", 4), read = is_form(argc, argv, "reads", 5), attack = is_form(argc, argv, "hostile", 5);
-    if (!work && !read && !attack) return 2;
+    bool turn = is_form(argc, argv, "endless", 4);
+    if (!work && !read && !attack && !turn) return 2;
+    sigaction(SIGTERM, &end, NULL);
     bool good = proxied_begin(&p, argv[2], argv[3], &r);
     CHECK_MORE(good, r.text);
     if (good && work) works(&p);
     if (good && read) reads(&p, argv[4]);
     if (good && attack) hostile(&p, strtoull(argv[4], NULL, 0));
+    if (good && turn) endless(&p);
     proxied_end(&p);
     return checks_end();
 }

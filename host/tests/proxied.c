@@ -54,7 +54,9 @@ static bool receive(const proxied *p, uint8_t *bytes, size_t length, reason *r) 
 
 bool proxied_ask(proxied *p, const message *m, uint64_t *value, reason *r) {
     uint8_t reply[PROXY_REPLY];
+    uint64_t begin = clock_milliseconds();
     if (!send_message(p, m, -1, r) || !receive(p, reply, sizeof reply, r)) return false;
+    if (clock_milliseconds() - begin > p->longest) p->longest = clock_milliseconds() - begin;
     if (get32(reply) != RET || get64(reply + 8) != sizeof *value) return refuse(r, "a reply has another form");
     *value = get64(reply + PROXY_HEADER);
     p->asked++;

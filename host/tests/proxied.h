@@ -17,7 +17,8 @@ typedef struct proxied {
     int socket;
     uint8_t *bytes; /* of the guest's memory */
     uint64_t length;
-    uint64_t asked; /* messages that were answered */
+    uint64_t asked;   /* messages that were answered */
+    uint64_t longest; /* milliseconds that one of them took */
 } proxied;
 
 /* Becomes the guest of the program that listens at `path`, or will soon, with `file` for its memory. In any case proxied_end is to follow. */
