@@ -117,6 +117,21 @@ inject-error.0.sector=$sector,inject-error.0.errno=5,inject-error.0.once=off"
     end_drive
 }
 
+# A drive that needs 1.6 seconds for a guest's 16 Reads: the guest's reset, and its next QEMU, wait for them.
+late() {
+    nodes=("area 32" "ram0 $small")
+    paint
+    {
+        echo "drive qemu $shared/qtest $shared/area"
+        listening_lines 0 "$shared/ram0"
+    } > "$room/configuration"
+    begin_drive -drive file="$room/image",format=raw,if=none,id=disk,throttling.iops-total=10
+    begin_host "$room/configuration"
+    check "no Read gets into a guest's memory after its reset" quietly "$top/host/out/guest_live" resets "$shared/guest0" "$shared/ram0"
+    check "the host program ends" end_host
+    end_drive
+}
+
 # A guest whose lists have no end, beside one that works: that one's accesses, for which its processor would wait, are answered soon all the same.
 endless() {
     local turn longest
@@ -143,6 +158,7 @@ run() {
     silent
     fatal
     media
+    late
     killed
     endless
     check "$rounds rounds of random input for the transport and the configuration, with sanitizers" quietly env ROUNDS="$rounds" "$top/host/test"

@@ -101,12 +101,12 @@ static void lose(host *h, guest *g, const reason *r) {
 }
 
 /* What is waited for: of each guest its connection, or one that comes, and the acknowledgement of its interrupt. */
-static void fill(const host *h, struct pollfd *polls) {
+static void fill(host *h, struct pollfd *polls) {
     for (unsigned i = 0; i < h->guests; i++) {
         const guest *g = &h->guest[i];
         struct pollfd *p = polls + 3 * i;
         p[0] = (struct pollfd){g->connected ? g->link.fd : -1, (short)(POLLIN | (g->connected && proxy_pending(&g->link) ? POLLOUT : 0)), 0};
-        p[1] = (struct pollfd){g->connected ? -1 : g->listener.fd, POLLIN, 0};
+        p[1] = (struct pollfd){guest_is_free(g, &h->mediation) ? g->listener.fd : -1, POLLIN, 0};
         p[2] = (struct pollfd){g->connected ? g->irq.resample : -1, POLLIN, 0};
     }
 }
@@ -131,7 +131,7 @@ static void tell(host *h) {
     reason r;
     for (unsigned i = 0; i < h->guests; i++) {
         guest *g = &h->guest[i];
-        if (!guest_interrupt(g, &h->mediation, &r)) lose(h, g, &r);
+        if (!guest_end_reset(g, &h->mediation, &r) || !guest_interrupt(g, &h->mediation, &r)) lose(h, g, &r);
         if (g->connected && pci_is_shutting(&g->function) && mediation_is_idle(&h->mediation)) pci_note_idle(&g->function);
     }
 }

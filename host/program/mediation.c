@@ -4,7 +4,7 @@
 
 #include "clock.h"
 
-enum { CC = 0x14, RING_SLOTS = 65, ENTRY = 64, EVENTS = 64 /* of one call of the library, so that the drive gets its doorbells soon */ };
+enum { CC = 0x14, CSTS = 0x1c, CSTS_READY = 1, RING_SLOTS = 65, ENTRY = 64, EVENTS = 64 /* of one call of the library, so that the drive gets its doorbells soon */ };
 enum { SLICE = 2000 /* microseconds after which guests are looked at again */ };
 
 /* One set-up of the library, with a namespace of each guest's extents. */
@@ -131,6 +131,13 @@ bool mediation_is_idle(const mediation *m) {
 }
 
 void mediation_reset(mediation *m, uint32_t guest) { nvmed_reg_write(&m->mediator, guest, CC, 0); }
+
+/* After a reset the mediator shows that a controller is ready until the last of its commands has run out. */
+bool mediation_has_run_out(mediation *m, uint32_t guest) {
+    uint32_t status = 0;
+    nvmed_reg_read(&m->mediator, guest, CSTS, &status);
+    return !(status & CSTS_READY);
+}
 
 bool mediation_close(mediation *m, reason *r) {
     bool good = !m->disk || drive_close(m->disk, r);

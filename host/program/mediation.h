@@ -46,6 +46,9 @@ bool mediation_is_idle(const mediation *m);
 /* Ends a guest's controller as a reset does: its queues are gone, and its commands run out. */
 void mediation_reset(mediation *m, uint32_t guest);
 
+/* Whether they have, so that neither the mediator nor the drive accesses the guest's memory any more. */
+bool mediation_has_run_out(mediation *m, uint32_t guest);
+
 /* Closes the drive and gives back the mediator. False, with the reason, where the drive did not stop well. */
 bool mediation_close(mediation *m, reason *r);
 

@@ -5,6 +5,7 @@
  *     guest_live hostile SOCKET FILE SEED     random commands, registers, doorbells and resets, and random bytes into its queues all the while, until
  *                                             SIGTERM comes; then the same as `works`
  *     guest_live endless SOCKET FILE          queues full of Reads whose scatter gather list names itself, until SIGTERM comes
+ *     guest_live resets SOCKET FILE           Reads of a slow drive are ended by a reset, and by going away: once that is over, none gets into the memory
  *
  * The program listens at SOCKET, and FILE is the guest's memory, of at least 32 MiB. It is started by bench/vm.sh. Its blocks 5, 6 and 100 to 355 are
  * overwritten by `works`, all of them by `hostile`. */
@@ -18,6 +19,7 @@
 
 enum { COMPARE = 5, READ = 2, COMPARE_FAILURE = 0x285, STATUS = 0x7ff /* code and type of a status */ };
 enum { BY_SGL = 0x40, SEGMENT = 0x20, DESCRIPTOR = 16 /* bytes */, FLIGHT = SLOTS - 1, PAUSE = 500 /* microseconds */ };
+enum { LATE_READS = 16, LATE_BLOCKS = 8, LATE_SECONDS = 3 /* the drive needs less for all of them */ };
 enum { CHUNK = 256 /* blocks of a Read, 32 pages */, CHUNK_PAGES = CHUNK * 512 / PAGE_BYTES };
 
 static volatile sig_atomic_t stopping;
@@ -134,6 +136,49 @@ static void endless(proxied *p) {
     printf("%" PRIu64 " rounds, the longest access: %" PRIu64 " ms\n", rounds, p->longest);
 }
 
+/* Gives the drive Reads into pages from DATA on. */
+static void begin_reads(drive *d) {
+    lane_state *l = &lanes[0];
+    for (unsigned i = 0; i < LATE_READS; i++) {
+        uint8_t *entry = memory + l->rings.submission + 64 * i;
+        memset(entry, 0, 64);
+        entry[0] = READ;
+        put16(entry + 2, (uint16_t)i);
+        put32(entry + 4, 1);
+        put64(entry + 24, DATA + (uint64_t)i * PAGE_BYTES);
+        put64(entry + 40, (uint64_t)i * LATE_BLOCKS);
+        put32(entry + 48, LATE_BLOCKS - 1);
+    }
+    CHECK_MORE(drive_ring_submission(d, 0, LATE_READS, &r), r.text);
+}
+
+/* Whether these pages stay as they are. */
+static bool is_quiet(void) {
+    enum { MARK = 0x5a };
+    bool quiet = true;
+    memset(memory + DATA, MARK, LATE_READS * PAGE_BYTES);
+    sleep(LATE_SECONDS);
+    for (unsigned i = 0; i < LATE_READS * PAGE_BYTES; i++) quiet = quiet && memory[DATA + i] == MARK;
+    return quiet;
+}
+
+static void resets(proxied *p, const char *path, const char *file) {
+    message reset = header(DEVICE_RESET, 0);
+    uint64_t unused;
+    drive *d = begin_drive(p);
+    if (!d) return;
+    begin_reads(d);
+    CHECK_MORE(proxied_ask(p, &reset, &unused, &r) && proxied_function(p, &r), r.text);
+    CHECK(is_quiet());
+    d = begin_drive(p);
+    if (!d) return;
+    begin_reads(d);
+    proxied_end(p);
+    CHECK_MORE(proxied_begin(p, path, file, &r), r.text);
+    memory = p->bytes;
+    CHECK(memory && is_quiet());
+}
+
 /* Whether the words are one of the forms. */
 static bool is_form(int argc, char **argv, const char *mode, int count) { return argc == count && strcmp(argv[1], mode) == 0; }
 
@@ -141,8 +186,8 @@ int main(int argc, char **argv) {
     proxied p;
     struct sigaction end = {.sa_handler = stop};
     bool work = is_form(argc, argv, "works", 4), read = is_form(argc, argv, "reads", 5), attack = is_form(argc, argv, "hostile", 5);
-    bool turn = is_form(argc, argv, "endless", 4);
-    if (!work && !read && !attack && !turn) return 2;
+    bool turn = is_form(argc, argv, "endless", 4), late = is_form(argc, argv, "resets", 4);
+    if (!work && !read && !attack && !turn && !late) return 2;
     sigaction(SIGTERM, &end, NULL);
     bool good = proxied_begin(&p, argv[2], argv[3], &r);
     CHECK_MORE(good, r.text);
@@ -150,6 +195,7 @@ int main(int argc, char **argv) {
     if (good && read) reads(&p, argv[4]);
     if (good && attack) hostile(&p, strtoull(argv[4], NULL, 0));
     if (good && turn) endless(&p);
+    if (good && late) resets(&p, argv[2], argv[3]);
     proxied_end(&p);
     return checks_end();
 }
