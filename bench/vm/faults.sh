@@ -147,6 +147,7 @@ endless() {
     check "guest 0 works beside it" quietly "$top/host/out/guest_live" works "$shared/guest0" "$shared/ram0"
     kill "$turn"
     check "guest 1 ends" wait "$turn"
+    check "a guest that does not end a message is lost" quietly "$top/host/out/guest_live" stops "$shared/guest0" "$shared/ram0"
     check "the host program ends" end_host
     longest=$(sed -n 's/.*the longest access: \([0-9]*\) ms/\1/p' "$room/endless")
     check "no access takes longer than $patience ms, but $longest" test "$longest" -le "$patience"

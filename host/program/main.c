@@ -100,7 +100,7 @@ static void lose(host *h, guest *g, const reason *r) {
     guest_lose(g, &h->mediation);
 }
 
-/* What is waited for: of each guest its connection, or one that comes, and the acknowledgement of its interrupt. */
+/* What is waited for: of each guest its connection, or one that comes, and the acknowledgement of its interrupt. Nothing of it is there yet. */
 static void fill(host *h, struct pollfd *polls) {
     for (unsigned i = 0; i < h->guests; i++) {
         const guest *g = &h->guest[i];
@@ -163,8 +163,11 @@ static int run(host *h) {
         struct timespec most = longest_pause(&h->mediation);
         fill(h, polls);
         int ready = ppoll(polls, 3 * h->guests, &most, NULL);
-        if (ready < 0 && errno != EINTR) break;
-        for (unsigned i = 0; ready > 0 && i < h->guests; i++) serve(h, &h->guest[i], polls + 3 * i);
+        if (ready < 0 && errno != EINTR) {
+            fprintf(stderr, "nvmed-host: guests cannot be waited for: %s\n", strerror(errno));
+            return FAILED;
+        }
+        for (unsigned i = 0; i < h->guests; i++) serve(h, &h->guest[i], polls + 3 * i);
         bool good = mediation_work(&h->mediation, &r);
         if (good && clock_milliseconds() - last >= TICK) {
             last = clock_milliseconds();

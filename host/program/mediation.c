@@ -84,15 +84,23 @@ static bool ring(mediation *m, unsigned lane, reason *r) {
 /* The drive can't be relied on any more: it is stopped, and what it had ends. */
 static bool give_up(mediation *m) {
     reason more;
-    uint64_t done;
     drive_close(m->disk, &more);
     m->disk = NULL;
     for (unsigned i = 0; i < m->lanes; i++) {
         nvmed_close(&m->mediator, i);
         m->lane[i].flying = 0;
     }
-    while (nvmed_work(&m->mediator, NVMED_OF_ALL, 0, EVENTS, &done) == NVMED_OK && done == EVENTS) {}
+    m->due = true;
     return false;
+}
+
+/* The drive gets its doorbells, and does what it has to do, where it is simulated. */
+static bool turn_drive(mediation *m, nvmed_status status, reason *r) {
+    if (status == NVMED_STRAY) return refuse(r, "the drive completed a command that it does not have");
+    for (unsigned i = 0; i < m->lanes; i++)
+        if (!ring(m, i, r)) return false;
+    if (drive_work(m->disk, EVENTS)) m->due = true;
+    return true;
 }
 
 bool mediation_work(mediation *m, reason *r) {
@@ -100,14 +108,7 @@ bool mediation_work(mediation *m, reason *r) {
     do {
         nvmed_status status = nvmed_work(&m->mediator, NVMED_OF_ALL, 0, EVENTS, &done);
         m->due = done != 0;
-        if (!m->disk) return true;
-        if (status == NVMED_STRAY) {
-            refuse(r, "the drive completed a command that it does not have");
-            return give_up(m);
-        }
-        for (unsigned i = 0; i < m->lanes; i++)
-            if (!ring(m, i, r)) return give_up(m);
-        if (drive_work(m->disk, EVENTS)) m->due = true;
+        if (m->disk && !turn_drive(m, status, r)) return give_up(m);
         if (m->due) m->moved = clock_microseconds();
     } while (m->due && m->moved - begin < SLICE);
     return true;

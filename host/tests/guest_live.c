@@ -6,11 +6,14 @@
  *                                             SIGTERM comes; then the same as `works`
  *     guest_live endless SOCKET FILE          queues full of Reads whose scatter gather list names itself, until SIGTERM comes
  *     guest_live resets SOCKET FILE           Reads of a slow drive are ended by a reset, and by going away: once that is over, none gets into the memory
+ *     guest_live stops SOCKET FILE            a message that is not ended: the connection is lost
  *
  * The program listens at SOCKET, and FILE is the guest's memory, of at least 32 MiB. It is started by bench/vm.sh. Its blocks 5, 6 and 100 to 355 are
  * overwritten by `works`, all of them by `hostile`. */
 #include <fcntl.h>
+#include <poll.h>
 #include <signal.h>
+#include <sys/socket.h>
 #include <unistd.h>
 
 #include "hostile.h"
@@ -179,23 +182,45 @@ static void resets(proxied *p, const char *path, const char *file) {
     CHECK(memory && is_quiet());
 }
 
-/* Whether the words are one of the forms. */
-static bool is_form(int argc, char **argv, const char *mode, int count) { return argc == count && strcmp(argv[1], mode) == 0; }
+/* Sends a part of a message, and no more: it loses its connection. */
+static void stops(const proxied *p) {
+    message m = config_access(PCI_CFGREAD, 0, 0, 4);
+    struct pollfd waited = {p->socket, POLLIN, 0};
+    uint8_t byte;
+    CHECK(send(p->socket, m.bytes, PROXY_HEADER, 0) == PROXY_HEADER);
+    CHECK(poll(&waited, 1, 2 * PROXY_STALL) == 1 && recv(p->socket, &byte, 1, 0) == 0);
+}
+
+typedef enum mode { WORKS, READS, HOSTILE, ENDLESS, RESETS, STOPS, MODES } mode;
+
+/* Which form the words have; MODES: none. */
+static mode form_of(int argc, char **argv) {
+    static const struct {
+        const char *name;
+        int count;
+    } forms[MODES] = {{"works", 4}, {"reads", 5}, {"hostile", 5}, {"endless", 4}, {"resets", 4}, {"stops", 4}};
+    unsigned at = 0;
+    while (at < MODES && (argc != forms[at].count || strcmp(argv[1], forms[at].name) != 0)) at++;
+    return (mode)at;
+}
 
 int main(int argc, char **argv) {
     proxied p;
     struct sigaction end = {.sa_handler = stop};
-    bool work = is_form(argc, argv, "works", 4), read = is_form(argc, argv, "reads", 5), attack = is_form(argc, argv, "hostile", 5);
-    bool turn = is_form(argc, argv, "endless", 4), late = is_form(argc, argv, "resets", 4);
-    if (!work && !read && !attack && !turn && !late) return 2;
+    mode m = form_of(argc, argv);
+    if (m == MODES) return 2;
     sigaction(SIGTERM, &end, NULL);
     bool good = proxied_begin(&p, argv[2], argv[3], &r);
     CHECK_MORE(good, r.text);
-    if (good && work) works(&p);
-    if (good && read) reads(&p, argv[4]);
-    if (good && attack) hostile(&p, strtoull(argv[4], NULL, 0));
-    if (good && turn) endless(&p);
-    if (good && late) resets(&p, argv[2], argv[3]);
+    switch (good ? m : MODES) {
+    case WORKS: works(&p); break;
+    case READS: reads(&p, argv[4]); break;
+    case HOSTILE: hostile(&p, strtoull(argv[4], NULL, 0)); break;
+    case ENDLESS: endless(&p); break;
+    case RESETS: resets(&p, argv[2], argv[3]); break;
+    case STOPS: stops(&p); break;
+    case MODES: break;
+    }
     proxied_end(&p);
     return checks_end();
 }
