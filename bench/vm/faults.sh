@@ -117,17 +117,25 @@ inject-error.0.sector=$sector,inject-error.0.errno=5,inject-error.0.once=off"
     end_drive
 }
 
-# A drive that needs 1.6 seconds for a guest's 16 Reads: the guest's reset, and its next QEMU, wait for them.
+# A drive that needs 1.6 seconds for a guest's 16 Reads: the guest's reset, and its next QEMU, wait for them. A guest's shutdown doesn't wait for those of
+# another that always has some.
 late() {
-    nodes=("area 32" "ram0 $small")
+    local busy
+    nodes=("area 32" "ram0 $small" "ram1 $small")
     paint
     {
         echo "drive qemu $shared/qtest $shared/area"
         listening_lines 0 "$shared/ram0"
+        listening_lines 1 "$shared/ram1"
     } > "$room/configuration"
     begin_drive -drive file="$room/image",format=raw,if=none,id=disk,throttling.iops-total=10
     begin_host "$room/configuration"
     check "no Read gets into a guest's memory after its reset" quietly "$top/host/out/guest_live" resets "$shared/guest0" "$shared/ram0"
+    "$top/host/out/guest_live" busy "$shared/guest1" "$shared/ram1" > "$room/busy" &
+    busy=$!
+    check "a guest shuts down while another is busy" quietly "$top/host/out/guest_live" shuts "$shared/guest0" "$shared/ram0"
+    kill "$busy"
+    check "the other one ends" wait "$busy"
     check "the host program ends" end_host
     end_drive
 }

@@ -132,7 +132,7 @@ static void tell(host *h) {
     for (unsigned i = 0; i < h->guests; i++) {
         guest *g = &h->guest[i];
         if (!guest_end_reset(g, &h->mediation, &r) || !guest_interrupt(g, &h->mediation, &r)) lose(h, g, &r);
-        if (g->connected && pci_is_shutting(&g->function) && mediation_is_idle(&h->mediation)) pci_note_idle(&g->function);
+        if (g->connected && pci_is_shutting(&g->function) && mediation_is_idle_of(&h->mediation, i)) pci_note_idle(&g->function);
     }
 }
 

@@ -4,7 +4,8 @@
 
 #include "clock.h"
 
-enum { CC = 0x14, CSTS = 0x1c, CSTS_READY = 1, RING_SLOTS = 65, ENTRY = 64, EVENTS = 64 /* of one call of the library, so that the drive gets its doorbells soon */ };
+enum { CC = 0x14, CSTS = 0x1c, CSTS_READY = 1, RING_SLOTS = 65, ENTRY = 64, COMPLETION = 16 };
+enum { EVENTS = 64 /* of one call of the library, so that the drive gets its doorbells soon */ };
 enum { SLICE = 2000 /* microseconds after which guests are looked at again */ };
 
 /* One set-up of the library, with a namespace of each guest's extents. */
@@ -51,6 +52,7 @@ bool mediation_open(mediation *m, const config *c, const layout *l, uint8_t *mem
     reason more;
     *m = (mediation){.lanes = c->lanes, .memory = memory, .disk = open_drive(c, l, reach, r)};
     if (!m->disk) return false;
+    flight_begin(&m->flight, c);
     if (make_mediator(&m->mediator, c, l, memory, r)) {
         if (create_lanes(m, r)) return true;
         nvmed_free(&m->mediator);
@@ -61,9 +63,19 @@ bool mediation_open(mediation *m, const config *c, const layout *l, uint8_t *mem
 
 static unsigned steps(uint32_t from, uint32_t to) { return (to + RING_SLOTS - from) % RING_SLOTS; }
 
-/* Counts the entries that the drive is about to get. */
-static void count(const mediation *m, const nvmed_lane_rings *rings, uint32_t from, unsigned entries) {
-    for (unsigned i = 0; i < entries; i++) statistics_count(m->counts, m->memory + rings->submission + ENTRY * (uint64_t)((from + i) % RING_SLOTS));
+/* Notes the entries that the drive is about to get. */
+static void note_sent(mediation *m, unsigned lane, const nvmed_lane_rings *rings, unsigned entries) {
+    for (unsigned i = 0; i < entries; i++) {
+        const uint8_t *entry = m->memory + rings->submission + ENTRY * (uint64_t)((m->lane[lane].tail + i) % RING_SLOTS);
+        flight_sent(&m->flight, lane, entry);
+        if (m->counts) statistics_count(m->counts, entry);
+    }
+}
+
+/* Notes the completions that the mediator has taken, which the drive may not write over yet. */
+static void note_answered(mediation *m, unsigned lane, const nvmed_lane_rings *rings, unsigned completions) {
+    for (unsigned i = 0; i < completions; i++)
+        flight_answered(&m->flight, lane, m->memory + rings->completion + COMPLETION * (uint64_t)((m->lane[lane].head + i) % RING_SLOTS));
 }
 
 /* Writes the doorbells of a lane that are to have another value. */
@@ -73,7 +85,8 @@ static bool ring(mediation *m, unsigned lane, reason *r) {
     if (nvmed_rings(&m->mediator, lane, &now) != NVMED_OK) return refuse(r, "the mediator has no lane %u", lane);
     unsigned sent = steps(told->tail, now.tail), answered = steps(told->head, now.head);
     if (answered || !told->flying) told->since = clock_milliseconds();
-    if (m->counts) count(m, &now, told->tail, sent);
+    note_answered(m, lane, &now, answered);
+    note_sent(m, lane, &now, sent);
     told->flying += sent;
     told->flying -= answered < told->flying ? answered : told->flying;
     told->tail = now.tail;
@@ -90,6 +103,7 @@ static bool give_up(mediation *m) {
         nvmed_close(&m->mediator, i);
         m->lane[i].flying = 0;
     }
+    flight_begin(&m->flight, m->flight.config);
     m->due = true;
     return false;
 }
@@ -132,6 +146,8 @@ bool mediation_is_idle(const mediation *m) {
 }
 
 void mediation_reset(mediation *m, uint32_t guest) { nvmed_reg_write(&m->mediator, guest, CC, 0); }
+
+bool mediation_is_idle_of(const mediation *m, uint32_t guest) { return !flight_has(&m->flight, guest) && !m->due; }
 
 /* After a reset the mediator shows that a controller is ready until the last of its commands has run out. */
 bool mediation_has_run_out(mediation *m, uint32_t guest) {

@@ -4,6 +4,7 @@
 
 #include "config.h"
 #include "drive.h"
+#include "flight.h"
 #include "layout.h"
 #include "nvmed.h"
 #include "reason.h"
@@ -23,6 +24,7 @@ typedef struct mediation {
     drive *disk; /* NULL: it has failed, and was closed */
     const uint8_t *memory; /* where host address 0 would lie */
     statistics *counts;    /* of what the drive is given; NULL: nothing is counted */
+    flight flight;         /* whose commands the drive has */
     unsigned lanes;
     mediation_lane lane[NVME_LANES];
     bool due;       /* more may be due at once */
@@ -40,8 +42,9 @@ bool mediation_work(mediation *m, reason *r);
 /* Looks at the drive itself: whether it still works, and has answered in time. As mediation_work. */
 bool mediation_check(mediation *m, reason *r);
 
-/* Whether nothing is due and the drive has no command. */
+/* Whether nothing is due and the drive has no command, and the same with no command of the guest. */
 bool mediation_is_idle(const mediation *m);
+bool mediation_is_idle_of(const mediation *m, uint32_t guest);
 
 /* Ends a guest's controller as a reset does: its queues are gone, and its commands run out. */
 void mediation_reset(mediation *m, uint32_t guest);

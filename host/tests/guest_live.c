@@ -6,6 +6,8 @@
  *                                             SIGTERM comes; then the same as `works`
  *     guest_live endless SOCKET FILE          queues full of Reads whose scatter gather list names itself, until SIGTERM comes
  *     guest_live resets SOCKET FILE           Reads of a slow drive are ended by a reset, and by going away: once that is over, none gets into the memory
+ *     guest_live busy SOCKET FILE             a drive that always has Reads, until SIGTERM comes
+ *     guest_live shuts SOCKET FILE            the controller is brought up, and shut down
  *     guest_live stops SOCKET FILE            a message that is not ended: the connection is lost
  *
  * The program listens at SOCKET, and FILE is the guest's memory, of at least 32 MiB. It is started by bench/vm.sh. Its blocks 5, 6 and 100 to 355 are
@@ -139,20 +141,46 @@ static void endless(proxied *p) {
     printf("%" PRIu64 " rounds, the longest access: %" PRIu64 " ms\n", rounds, p->longest);
 }
 
-/* Gives the drive Reads into pages from DATA on. */
-static void begin_reads(drive *d) {
+/* Puts a Read into lane 0, into a page from DATA on. */
+static void put_read(unsigned number) {
     lane_state *l = &lanes[0];
-    for (unsigned i = 0; i < LATE_READS; i++) {
-        uint8_t *entry = memory + l->rings.submission + 64 * i;
-        memset(entry, 0, 64);
-        entry[0] = READ;
-        put16(entry + 2, (uint16_t)i);
-        put32(entry + 4, 1);
-        put64(entry + 24, DATA + (uint64_t)i * PAGE_BYTES);
-        put64(entry + 40, (uint64_t)i * LATE_BLOCKS);
-        put32(entry + 48, LATE_BLOCKS - 1);
+    uint8_t *entry = memory + l->rings.submission + 64 * l->tail;
+    memset(entry, 0, 64);
+    entry[0] = READ;
+    put16(entry + 2, (uint16_t)number);
+    put32(entry + 4, 1);
+    put64(entry + 24, DATA + (uint64_t)number * PAGE_BYTES);
+    put64(entry + 40, (uint64_t)number * LATE_BLOCKS);
+    put32(entry + 48, LATE_BLOCKS - 1);
+    l->tail = (l->tail + 1) % SLOTS;
+}
+
+/* Gives the drive Reads. */
+static void begin_reads(drive *d) {
+    for (unsigned i = 0; i < LATE_READS; i++) put_read(i);
+    CHECK_MORE(drive_ring_submission(d, 0, lanes[0].tail, &r), r.text);
+}
+
+/* In place of each Read that ends the drive gets another. */
+static void busy(proxied *p) {
+    lane_state *l = &lanes[0];
+    drive *d = begin_drive(p);
+    if (!d) return;
+    begin_reads(d);
+    for (bool good = true; good && !stopping;) {
+        const volatile uint8_t *done = memory + l->rings.completion + 16 * l->head;
+        while ((done[14] & 1) != l->phase && !stopping) clock_pause(PAUSE);
+        put_read(done[12] % LATE_READS);
+        l->head = (l->head + 1) % SLOTS;
+        if (l->head == 0) l->phase = !l->phase;
+        CHECK_MORE(good = drive_ring_completion(d, 0, l->head, &r) && drive_ring_submission(d, 0, l->tail, &r), r.text);
     }
-    CHECK_MORE(drive_ring_submission(d, 0, LATE_READS, &r), r.text);
+}
+
+/* A controller is brought up and shut down, within the limit of nvme.h. */
+static void shuts(proxied *p) {
+    drive *d = begin_drive(p);
+    if (d) end_drive(d);
 }
 
 /* Whether these pages stay as they are. */
@@ -191,14 +219,14 @@ static void stops(const proxied *p) {
     CHECK(poll(&waited, 1, 2 * PROXY_STALL) == 1 && recv(p->socket, &byte, 1, 0) == 0);
 }
 
-typedef enum mode { WORKS, READS, HOSTILE, ENDLESS, RESETS, STOPS, MODES } mode;
+typedef enum mode { WORKS, READS, HOSTILE, ENDLESS, RESETS, BUSY, SHUTS, STOPS, MODES } mode;
 
 /* Which form the words have; MODES: none. */
 static mode form_of(int argc, char **argv) {
     static const struct {
         const char *name;
         int count;
-    } forms[MODES] = {{"works", 4}, {"reads", 5}, {"hostile", 5}, {"endless", 4}, {"resets", 4}, {"stops", 4}};
+    } forms[MODES] = {{"works", 4}, {"reads", 5}, {"hostile", 5}, {"endless", 4}, {"resets", 4}, {"busy", 4}, {"shuts", 4}, {"stops", 4}};
     unsigned at = 0;
     while (at < MODES && (argc != forms[at].count || strcmp(argv[1], forms[at].name) != 0)) at++;
     return (mode)at;
@@ -218,6 +246,8 @@ int main(int argc, char **argv) {
     case HOSTILE: hostile(&p, strtoull(argv[4], NULL, 0)); break;
     case ENDLESS: endless(&p); break;
     case RESETS: resets(&p, argv[2], argv[3]); break;
+    case BUSY: busy(&p); break;
+    case SHUTS: shuts(&p); break;
     case STOPS: stops(&p); break;
     case MODES: break;
     }
