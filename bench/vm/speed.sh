@@ -5,6 +5,8 @@
 source "$top/bench/vm/linux.sh"
 
 turns=3
+# that bench/vm/parts/speed.sh has
+jobs=5
 # hundredths of QEMU's own speed that the program's has to have: 5 are noise
 least=95
 # the queue that is measured has no interrupt
@@ -40,10 +42,10 @@ on_program() {
 
 # A turn on QEMU's own controller.
 on_qemu() {
-    local words
-    mapfile -t words < <(start_lines 0 speed "$kernel_words" | sed 's/^start 0 //' | tr '\n' ' ' | xargs -n 1)
+    local machine
+    mapfile -t machine < <(start_lines 0 speed "$kernel_words" | sed 's/^start 0 //' | tr '\n' ' ' | xargs -n 1)
     rm -f "$room/serial.0"
-    timeout $((limit > SECONDS ? limit - SECONDS : 1)) "${words[@]}" -m "${memory}M" \
+    timeout $((limit > SECONDS ? limit - SECONDS : 1)) "${machine[@]}" -m "${memory}M" \
         -drive file="$room/image",format=raw,if=none,id=disk -device nvme,drive=disk,serial=own,max_ioqpairs=8
 }
 
@@ -60,6 +62,7 @@ middle() {
 # Prints the table, and reports whether each job is fast enough.
 table() {
     local job ours theirs good=0
+    [[ $(cat "$room"/speed.{program,qemu} | wc -l) == $((2 * turns * jobs)) ]] || return 1
     printf '%-10s %12s %12s %s\n' job program QEMU percent
     while read -r job; do
         ours=$(middle program "$job")
