@@ -24,13 +24,13 @@ processor() {
 
 # A turn on the program.
 on_program() {
-    local now status=0
+    local now spent=0 status=0
     {
         echo "drive ram $(stat -c %s "$room/image") $room/image"
         guest_lines 0 speed "$kernel_words"
     } > "$room/configuration"
     begin_host "$room/configuration" --statistics
-    while kill -0 "$host" 2> /dev/null; do
+    while ((SECONDS < limit)) && kill -0 "$host" 2> /dev/null; do
         now=$(processor)
         [[ -z $now ]] || spent=$now
         sleep 0.2

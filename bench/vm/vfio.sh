@@ -50,7 +50,7 @@ run() {
     add_programs "$top/host/out/nvmed-host" "$top/host/out/vfio_live" "$top/host/out/guest_live"
     make_configuration > "$room/system/etc/configuration"
     end_system
-    check "the machine switches off" machine
+    check "the machine switches off" quietly machine
     check "all programs in it" says 0 "guest 0: passed"
     check "an access outside of what is mapped faults" has_line 'faults of 0000:00:0[0-9]\.0: [1-9][0-9]*'
     check "the program drives the controller by VFIO" has_line 'nvmed-host: the drive: 0000:00:0[0-9]\.0: QEMU NVMe Ctrl.*'
