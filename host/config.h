@@ -74,4 +74,14 @@ bool config_read(config *c, const char *path, reason *r);
 /* Blocks that the drive must have: the end of the last extent. */
 uint64_t config_blocks(const config *c);
 
+/* The guest that has a block of the drive; -1 where none has it. */
+static inline int config_owner(const config *c, uint64_t block) {
+    for (unsigned g = 0; g < c->guests; g++)
+        for (unsigned e = 0; e < c->guest[g].extents; e++) {
+            const config_extent *extent = &c->guest[g].extent[e];
+            if (block >= extent->base && block - extent->base < extent->blocks) return (int)g;
+        }
+    return -1;
+}
+
 #endif

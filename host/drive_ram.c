@@ -10,14 +10,12 @@
 #include <sys/stat.h>
 #include <unistd.h>
 
-#include "bytes.h"
 #include "drive.h"
+#include "entry.h"
 #include "prp.h"
 
 enum { BLOCK = 512, ENTRY = 64, COMPLETION = 16, RANGE = 16 };
 
-/* NVM command set specification, "NVM Command Set Commands". */
-enum { FLUSH = 0x00, WRITE = 0x01, READ = 0x02, COMPARE = 0x05, WRITE_ZEROES = 0x08, DATASET_MANAGEMENT = 0x09 };
 enum { DEALLOCATE = 1 << 2 };
 
 /* Status fields: status code in bits 7:0, status code type in bits 10:8, do not retry in bit 14. What a second try would meet again has that bit. */
@@ -106,24 +104,24 @@ static unsigned find_places(const ram *d, const uint8_t *entry, uint32_t length,
 static unsigned move(ram *d, const uint8_t *entry) {
     prp_place places[PRP_PLACES];
     unsigned count;
-    uint64_t first = get64(entry + 40);
-    uint32_t blocks = get16(entry + 48) + 1u;
+    uint64_t first = entry_first_block(entry);
+    uint32_t blocks = entry_blocks(entry);
     if (blocks > NVME_MOST_BLOCKS) return INVALID_FIELD;
     if (!has_blocks(d, first, blocks)) return OUT_OF_RANGE;
     unsigned status = find_places(d, entry, blocks * BLOCK, places, &count);
     if (status != GOOD) return status;
     uint8_t *at = d->disk + first * BLOCK;
     for (unsigned i = 0; i < count; at += places[i].length, i++) {
-        if (entry[0] == READ) memcpy(places[i].at, at, places[i].length);
-        if (entry[0] == WRITE) memcpy(at, places[i].at, places[i].length);
-        if (entry[0] == COMPARE && memcmp(at, places[i].at, places[i].length)) return COMPARE_FAILURE;
+        if (entry[0] == OPCODE_READ) memcpy(places[i].at, at, places[i].length);
+        if (entry[0] == OPCODE_WRITE) memcpy(at, places[i].at, places[i].length);
+        if (entry[0] == OPCODE_COMPARE && memcmp(at, places[i].at, places[i].length)) return COMPARE_FAILURE;
     }
     return GOOD;
 }
 
 static unsigned write_zeroes(ram *d, const uint8_t *entry) {
-    uint64_t first = get64(entry + 40);
-    uint32_t blocks = get16(entry + 48) + 1u;
+    uint64_t first = entry_first_block(entry);
+    uint32_t blocks = entry_blocks(entry);
     if (!has_blocks(d, first, blocks)) return OUT_OF_RANGE;
     memset(d->disk + first * BLOCK, 0, (size_t)blocks * BLOCK);
     return GOOD;
@@ -150,14 +148,14 @@ static unsigned flush(const ram *d) { return d->image < 0 || msync(d->disk, d->b
 static unsigned carry_out(ram *d, const uint8_t *entry) {
     uint32_t namespace = get32(entry + 4);
     if (entry[1] & 0xc3) return INVALID_FIELD; /* fused, or a scatter gather list */
-    if (namespace != 1 && !(entry[0] == FLUSH && namespace == UINT32_MAX)) return INVALID_NAMESPACE;
+    if (namespace != 1 && !(entry[0] == OPCODE_FLUSH && namespace == UINT32_MAX)) return INVALID_NAMESPACE;
     switch (entry[0]) {
-    case READ:
-    case WRITE:
-    case COMPARE: return move(d, entry);
-    case WRITE_ZEROES: return write_zeroes(d, entry);
-    case DATASET_MANAGEMENT: return manage(d, entry);
-    case FLUSH: return flush(d);
+    case OPCODE_READ:
+    case OPCODE_WRITE:
+    case OPCODE_COMPARE: return move(d, entry);
+    case OPCODE_WRITE_ZEROES: return write_zeroes(d, entry);
+    case OPCODE_DATASET_MANAGEMENT: return manage(d, entry);
+    case OPCODE_FLUSH: return flush(d);
     default: return INVALID_OPCODE;
     }
 }

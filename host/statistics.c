@@ -3,36 +3,23 @@
 #include <inttypes.h>
 #include <stdio.h>
 
-#include "bytes.h"
+#include "entry.h"
 
-/* NVM command set specification, "NVM Command Set Commands". */
-enum { WRITE = 0x01, READ = 0x02, COMPARE = 0x05, WRITE_ZEROES = 0x08 };
 enum { BLOCK = 512 };
 
 void statistics_begin(statistics *s, const config *c) { *s = (statistics){.config = c}; }
 
-/* The guest that has a block; NULL where none has it. */
-static statistics_guest *owner(statistics *s, uint64_t block) {
-    for (unsigned g = 0; g < s->config->guests; g++)
-        for (unsigned e = 0; e < s->config->guest[g].extents; e++) {
-            const config_extent *extent = &s->config->guest[g].extent[e];
-            if (block >= extent->base && block - extent->base < extent->blocks) return &s->guest[g];
-        }
-    return NULL;
-}
-
 void statistics_count(statistics *s, const uint8_t *entry) {
-    uint8_t opcode = entry[0];
-    uint64_t bytes = (get16(entry + 48) + UINT64_C(1)) * BLOCK;
-    bool names_blocks = opcode == WRITE || opcode == READ || opcode == COMPARE || opcode == WRITE_ZEROES;
-    statistics_guest *g = names_blocks ? owner(s, get64(entry + 40)) : NULL;
-    if (!g) {
+    uint64_t bytes = (uint64_t)entry_blocks(entry) * BLOCK;
+    int guest = entry_names_blocks(entry) ? config_owner(s->config, entry_first_block(entry)) : -1;
+    if (guest < 0) {
         s->others++;
         return;
     }
+    statistics_guest *g = &s->guest[guest];
     g->commands++;
-    if (opcode == READ) g->read += bytes;
-    if (opcode == WRITE) g->written += bytes;
+    if (entry[0] == OPCODE_READ) g->read += bytes;
+    if (entry[0] == OPCODE_WRITE) g->written += bytes;
 }
 
 void statistics_take(statistics *s, char *text, size_t bytes) {

@@ -5,7 +5,7 @@
 source "$top/bench/vm/linux.sh"
 
 # files of memory that are the RAM of the QEMU with the drive, in this order, and their MiB: the mediator's part, and each guest's
-nodes=("area 32" "ram0 $memory" "ram1 $memory" "ram2 $memory")
+nodes=("area 32" "ram0 $memory" "ram1 $memory" "ram2 $small")
 emulator=
 
 end_drive() {
@@ -31,7 +31,6 @@ begin_drive() {
     qemu-system-x86_64 -nodefaults -no-user-config -display none -machine q35,accel=tcg -bios "$room/rom" -m "${total}M" "${words[@]}" "$@" \
         -device nvme,drive=disk,serial=shared,max_ioqpairs=8 -qtest unix:"$shared/qtest",server=on,wait=off -qtest-log /dev/null 2> "$room/drive" &
     emulator=$!
-    started+=("$emulator")
     for _ in {1..100}; do
         [[ ! -S $shared/qtest ]] || return 0
         sleep 0.1
@@ -40,12 +39,12 @@ begin_drive() {
 }
 
 begin_image() {
-    begin_drive -drive file="$room/image",format=raw,if=none,id=disk
+    begin_drive -drive file="$room/image",format=raw,if=none,id=disk,discard=unmap "$@"
 }
 
 run() {
-    paint
-    run_on "qemu $shared/qtest $shared/area" begin_image "$shared/ram0" "$shared/ram1" "$shared/ram2"
+    begin_run
+    run_on "qemu $shared/qtest $shared/area" begin_image "$shared/ram0" "$shared/ram1"
     check "the drive is QEMU's controller" grep -q "the drive: of QEMU" "$room/host"
     end_drive
     compare

@@ -6,21 +6,18 @@ source "$top/bench/vm/drive.sh"
 
 kills=10
 rounds=1000000
+# of an access of a register, in milliseconds
+patience=200
 # of the guest whose processor runs bench/vm/busy.S, in MiB
 small=64
 # of the first guest, that the drive cannot read in one of the runs
 bad=4096
+# QEMU's words for a guest without Linux, whose firmware boots from its drive
+firmware=(qemu-system-x86_64 -accel "$accelerator" -display none -serial "file:$room/serial.0" -net none)
 
-# Waits until a guest's serial port has a line; not after so many seconds.
-waits_for() {
-    local end=$((SECONDS + $3))
-    until [[ -f $room/serial.$1 ]] && tr -d '\r' < "$room/serial.$1" | grep -qFx "$2"; do
-        ((SECONDS < end)) || return 1
-        sleep 0.3
-    done
-}
-
-make_busy() {
+# The drive's image, with guest 0's blocks for bench/vm/busy.S.
+paint_busy() {
+    paint
     cc -c "$top/bench/vm/busy.S" -o "$room/busy.o"
     ld -m elf_x86_64 -Ttext=0x7c00 --oformat=binary "$room/busy.o" -o "$room/busy"
     dd if="$room/busy" of="$room/image" seek="$(begin_of 0)" conv=notrunc status=none
@@ -29,8 +26,7 @@ make_busy() {
 # A QEMU for guest 0, which listens, until it is busy; then it is killed.
 killed_once() {
     rm -f "$room/serial.0"
-    "$top/host/out/nvmed-host" --join "$shared/guest0" "$shared/small" qemu-system-x86_64 -accel "$accelerator" -display none \
-        -serial file:"$room/serial.0" -net none &
+    "$top/host/out/nvmed-host" --join "$shared/guest0" "$shared/ram0" "${firmware[@]}" &
     local status=0 qemu=$!
     waits_for 0 busy 60 || status=1
     sleep 0.$((RANDOM % 10))
@@ -42,12 +38,10 @@ killed_once() {
 # Guest 0 is killed in the middle of its reads and writes, again and again, while guest 1 is at work.
 killed() {
     local it
-    paint
-    make_busy
+    paint_busy
     {
         echo "drive ram $(stat -c %s "$room/image") $room/image"
-        guest_lines 0 none "" "$shared/small" | sed "/^start/d; s/ memory ${memory}M / memory ${small}M /"
-        echo "listen 0 $shared/guest0"
+        listening_lines 0 "$shared/ram0"
         guest_lines 1 files ""
     } > "$room/configuration"
     rm -f "$shared"/*
@@ -57,30 +51,51 @@ killed() {
         sleep 0.1
     done
     for ((it = 1; it <= kills; it++)); do check "guest 0 is busy before its kill $it" killed_once; done
-    check "guest 1 goes on beside it" waits_for 1 "guest 1: passed" $((limit - SECONDS))
+    check "guest 1 goes on beside it" has_passed 1
     check "guest 0 was lost each time" test "$(grep -c '^nvmed-host: guest 0: ' "$room/host")" == "$kills"
-    kill "$host"
-    check "the host program ends" host_ended 0
+    check "the host program ends" end_host
     check "the blocks that are no guest's" gaps_are_painted
+}
+
+# The drive is that of a QEMU, with further words, and guest 0 is busy on it.
+begin_failing() {
+    nodes=("area 32" "ram0 $small")
+    paint_busy
+    {
+        echo "drive qemu $shared/qtest $shared/area"
+        echo "guest 0 memory ${small}M $shared/ram0"
+        extent_lines 0
+        echo "start 0 ${firmware[*]}"
+    } > "$room/configuration"
+    begin_image "$@"
+    begin_host "$room/configuration"
+    check "guest 0 is busy before its drive fails" waits_for 0 busy 60
+}
+
+# Reports whether the program saw that, and how it says so.
+has_failed() {
+    check "the host program ends with the status of a drive that failed" host_ended 3
+    check "and says why: $1" grep -q "^nvmed-host: the drive: .*$1" "$room/host"
+    end_drive
 }
 
 # The drive's process stands still.
 silent() {
-    nodes=("area 32" "ram0 $small")
-    paint
-    make_busy
-    {
-        echo "drive qemu $shared/qtest $shared/area"
-        guest_lines 0 none "" "$shared/ram0" | sed "/^start/d; s/ memory ${memory}M / memory ${small}M /"
-        echo "start 0 qemu-system-x86_64 -accel $accelerator -display none -serial file:$room/serial.0 -net none"
-    } > "$room/configuration"
-    begin_image
-    begin_host "$room/configuration"
-    check "guest 0 is busy before its drive stops" waits_for 0 busy 60
+    begin_failing
     kill -STOP "$emulator"
-    check "the host program ends with the status of a drive that failed" host_ended 3
-    check "and says that it did not answer" grep -q "^nvmed-host: the drive: .*QEMU does not answer in time" "$room/host"
-    end_drive
+    has_failed "QEMU does not answer in time"
+}
+
+# The drive may no longer reach memory: it shows a fatal status, as QEMU's controller does where it cannot read an entry. Its configuration space is written by
+# its monitor: the address of the command register, and then memory accesses without bus mastering.
+fatal() {
+    local slot
+    mkfifo "$room/monitor.in" "$room/monitor.out"
+    begin_failing -chardev pipe,id=monitor,path="$room/monitor" -mon chardev=monitor
+    slot=$(sed -n 's/^nvmed-host: the drive: of QEMU at 00:\([0-9a-f]*\)\..*/0x\1/p' "$room/host")
+    printf 'o /w 0xcf8 %#x\no /h 0xcfc 2\n' $((0x80000004 | slot << 11)) > "$room/monitor.in"
+    has_failed "shows a fatal status (CSTS.CFS)"
+    check "guest 0's command has ended with an error" says 0 failed
 }
 
 # The drive cannot read a block of guest 0's.
@@ -95,23 +110,65 @@ media() {
     } > "$room/configuration"
     begin_drive -blockdev "driver=blkdebug,node-name=disk,image.driver=file,image.filename=$room/image,inject-error.0.event=none,inject-error.0.iotype=read,\
 inject-error.0.sector=$sector,inject-error.0.errno=5,inject-error.0.once=off"
-    check "the host program, on a drive with a bad block" host "$room/configuration"
-    check "guest 0 sees its bad block, and reads those beside it" says 0 "guest 0: passed"
-    check "guest 1 reads all of its blocks" says 1 "guest 1: passed"
+    begin_host "$room/configuration"
+    check "guest 0 sees its bad block, and reads those beside it" has_passed 0
+    check "guest 1 reads all of its blocks" has_passed 1
+    check "the host program, on a drive with a bad block" host_ended 0
     end_drive
 }
 
-# Random and truncated messages, with sanitizers.
-messages() {
-    ROUNDS=$rounds "$top/host/test" > "$room/messages" || {
-        cat "$room/messages"
-        return 1
-    }
+# A drive that needs 1.6 seconds for a guest's 16 Reads: the guest's reset, and its next QEMU, wait for them. A guest's shutdown doesn't wait for those of
+# another that always has some.
+late() {
+    local busy
+    nodes=("area 32" "ram0 $small" "ram1 $small")
+    paint
+    {
+        echo "drive qemu $shared/qtest $shared/area"
+        listening_lines 0 "$shared/ram0"
+        listening_lines 1 "$shared/ram1"
+    } > "$room/configuration"
+    begin_drive -drive file="$room/image",format=raw,if=none,id=disk,throttling.iops-total=10
+    begin_host "$room/configuration"
+    check "no Read gets into a guest's memory after its reset" quietly "$top/host/out/guest_live" resets "$shared/guest0" "$shared/ram0"
+    "$top/host/out/guest_live" busy "$shared/guest1" "$shared/ram1" > "$room/busy" &
+    busy=$!
+    check "a guest shuts down while another is busy" quietly "$top/host/out/guest_live" shuts "$shared/guest0" "$shared/ram0"
+    kill "$busy"
+    check "the other one ends" wait "$busy"
+    check "the host program ends" end_host
+    end_drive
+}
+
+# A guest whose lists have no end, beside one that works: that one's accesses, for which its processor would wait, are answered soon all the same.
+endless() {
+    local turn longest
+    {
+        echo "drive ram $(stat -c %s "$room/image") $room/image"
+        listening_lines 0 "$shared/ram0"
+        listening_lines 1 "$shared/ram1"
+    } > "$room/configuration"
+    rm -f "$shared"/*
+    begin_host "$room/configuration"
+    "$top/host/out/guest_live" endless "$shared/guest1" "$shared/ram1" > "$room/endless" &
+    turn=$!
+    check "guest 0 works beside it" quietly "$top/host/out/guest_live" works "$shared/guest0" "$shared/ram0"
+    kill "$turn"
+    check "guest 1 ends" wait "$turn"
+    check "a guest that does not end a message is lost" quietly "$top/host/out/guest_live" stops "$shared/guest0" "$shared/ram0"
+    check "the host program ends" end_host
+    longest=$(sed -n 's/.*the longest access: \([0-9]*\) ms/\1/p' "$room/endless")
+    check "no access takes longer than $patience ms, but $longest" test "$longest" -le "$patience"
 }
 
 run() {
-    check "$rounds rounds of random input for the transport and the configuration" messages
+    make_test guest_live tests/proxied.c tests/hostile.c
+    make_system
     silent
+    fatal
     media
+    late
     killed
+    endless
+    check "$rounds rounds of random input for the transport and the configuration, with sanitizers" quietly env ROUNDS="$rounds" "$top/host/test"
 }

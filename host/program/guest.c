@@ -15,6 +15,7 @@ static bool connect_on(guest *g, int socket, reason *r) {
     proxy_error e = proxy_open(&g->link, socket);
     if (e != PROXY_OK) return refuse(r, "its socket cannot be used: %s", proxy_words(e));
     pci_begin(&g->function, g->is->version);
+    g->resetting = false;
     g->connected = true;
     return true;
 }
@@ -27,6 +28,8 @@ bool guest_start(guest *g, reason *r) {
     const peer_memory memory = {g->is->file ? g->is->file : path, g->is->memory};
     return peer_start(&g->process, g->is->start, &memory, &socket, r) && connect_on(g, socket, r);
 }
+
+bool guest_is_free(const guest *g, mediation *m) { return !g->connected && g->listener.fd >= 0 && mediation_has_run_out(m, g->number); }
 
 void guest_accept(guest *g) {
     reason r;
@@ -94,6 +97,7 @@ static bool carry_out(guest *g, mediation *m, proxy_request *q, uint64_t *value,
     case PROXY_RESET:
         mediation_reset(m, g->number);
         pci_reset(&g->function);
+        g->resetting = true;
         break;
     }
     return true;
@@ -106,13 +110,21 @@ bool guest_serve(guest *g, mediation *m, reason *r) {
     uint64_t value;
     bool there;
     proxy_error e = proxy_receive(&g->link, clock_milliseconds());
-    while (e == PROXY_OK && (e = proxy_next(&g->link, &q, &there, clock_milliseconds())) == PROXY_OK && there) {
+    while (!g->resetting && e == PROXY_OK && (e = proxy_next(&g->link, &q, &there, clock_milliseconds())) == PROXY_OK && there) {
+        m->due = true;
         if (!carry_out(g, m, &q, &value, r)) return false;
-        if (has_reply(q.kind)) e = proxy_reply(&g->link, value);
+        if (has_reply(q.kind) && !g->resetting) e = proxy_reply(&g->link, value);
     }
     if (e == PROXY_OK) e = proxy_flush(&g->link);
     if (e == PROXY_OK) e = proxy_check(&g->link, clock_milliseconds());
     return e == PROXY_OK || refuse(r, "%s", proxy_words(e));
+}
+
+bool guest_end_reset(guest *g, mediation *m, reason *r) {
+    if (!g->connected || !g->resetting || !mediation_has_run_out(m, g->number)) return true;
+    g->resetting = false;
+    proxy_error e = proxy_reply(&g->link, 0);
+    return e == PROXY_OK ? guest_serve(g, m, r) : refuse(r, "%s", proxy_words(e));
 }
 
 void guest_lose(guest *g, mediation *m) {

@@ -17,6 +17,7 @@ typedef struct guest {
     peer_listener listener; /* where its QEMU connects, or */
     peer_process process;   /* the QEMU that was started */
     bool connected;
+    bool resetting; /* its QEMU waits for the end of a reset */
     bool over; /* its QEMU was started, and has gone: nothing more comes */
     proxy link;
     pci_function function;
@@ -29,11 +30,17 @@ void guest_begin(guest *g, uint32_t number, const config_guest *is);
 /* Starts its QEMU, or listens for one. */
 bool guest_start(guest *g, reason *r);
 
-/* Takes a QEMU that connects, where there is none. */
+/* Whether a QEMU may connect: there is none, and what an earlier one had on its way has run out, so that nothing of it gets into the next one's memory. */
+bool guest_is_free(const guest *g, mediation *m);
+
+/* Takes a QEMU that connects. */
 void guest_accept(guest *g);
 
 /* Carries out what its QEMU asks for. False, with the reason, where the connection has to be closed: guest_lose does it. */
 bool guest_serve(guest *g, mediation *m, reason *r);
+
+/* Answers a reset once the guest's commands have run out, and goes on. As guest_serve. */
+bool guest_end_reset(guest *g, mediation *m, reason *r);
 
 /* Closes the connection: the controller is reset, and a QEMU that listens may connect anew. */
 void guest_lose(guest *g, mediation *m);

@@ -14,6 +14,7 @@
 #include "mediation.h"
 
 enum { ENDED = 0, FAILED = 1, USAGE = 2, DRIVE_FAILED = 3, POLLS = 3 * CONFIG_GUESTS, TICK = 1000 /* milliseconds */ };
+enum { SPIN = 100 /* microseconds that a drive with commands is looked at without a pause */, NAP = 50 /* and the pauses after that */ };
 
 typedef struct host {
     config config;
@@ -99,13 +100,13 @@ static void lose(host *h, guest *g, const reason *r) {
     guest_lose(g, &h->mediation);
 }
 
-/* What is waited for: of each guest its connection, or one that comes, and the acknowledgement of its interrupt. */
-static void fill(const host *h, struct pollfd *polls) {
+/* What is waited for: of each guest its connection, or one that comes, and the acknowledgement of its interrupt. Nothing of it is there yet. */
+static void fill(host *h, struct pollfd *polls) {
     for (unsigned i = 0; i < h->guests; i++) {
         const guest *g = &h->guest[i];
         struct pollfd *p = polls + 3 * i;
         p[0] = (struct pollfd){g->connected ? g->link.fd : -1, (short)(POLLIN | (g->connected && proxy_pending(&g->link) ? POLLOUT : 0)), 0};
-        p[1] = (struct pollfd){g->connected ? -1 : g->listener.fd, POLLIN, 0};
+        p[1] = (struct pollfd){guest_is_free(g, &h->mediation) ? g->listener.fd : -1, POLLIN, 0};
         p[2] = (struct pollfd){g->connected ? g->irq.resample : -1, POLLIN, 0};
     }
 }
@@ -130,8 +131,8 @@ static void tell(host *h) {
     reason r;
     for (unsigned i = 0; i < h->guests; i++) {
         guest *g = &h->guest[i];
-        if (!guest_interrupt(g, &h->mediation, &r)) lose(h, g, &r);
-        if (g->connected && pci_is_shutting(&g->function) && mediation_flying(&h->mediation) == 0) pci_note_idle(&g->function);
+        if (!guest_end_reset(g, &h->mediation, &r) || !guest_interrupt(g, &h->mediation, &r)) lose(h, g, &r);
+        if (g->connected && pci_is_shutting(&g->function) && mediation_is_idle_of(&h->mediation, i)) pci_note_idle(&g->function);
     }
 }
 
@@ -146,17 +147,27 @@ static bool is_any_left(host *h) {
     return any;
 }
 
+/* How long guests may be waited for: not at all where more is due. A drive that has commands is looked at again soon: its completions lie in memory, and
+ * nothing says that they came. */
+static struct timespec longest_pause(const mediation *m) {
+    if (mediation_is_idle(m)) return (struct timespec){TICK / 1000, 0};
+    return (struct timespec){0, m->due || clock_microseconds() - m->moved < SPIN ? 0 : NAP * 1000};
+}
+
 /* Until a signal comes, no guest is left, or the drive has failed and the guests were answered. The status of the program. */
 static int run(host *h) {
     struct pollfd polls[POLLS];
     reason r;
     uint64_t last = clock_milliseconds(), failed = 0;
     while (!stopping && is_any_left(h)) {
+        struct timespec most = longest_pause(&h->mediation);
         fill(h, polls);
-        /* a drive that has commands is looked at again at once: its completions lie in memory */
-        int ready = poll(polls, 3 * h->guests, mediation_flying(&h->mediation) ? 0 : TICK);
-        if (ready < 0 && errno != EINTR) break;
-        for (unsigned i = 0; ready > 0 && i < h->guests; i++) serve(h, &h->guest[i], polls + 3 * i);
+        int ready = ppoll(polls, 3 * h->guests, &most, NULL);
+        if (ready < 0 && errno != EINTR) {
+            fprintf(stderr, "nvmed-host: guests cannot be waited for: %s\n", strerror(errno));
+            return FAILED;
+        }
+        for (unsigned i = 0; i < h->guests; i++) serve(h, &h->guest[i], polls + 3 * i);
         bool good = mediation_work(&h->mediation, &r);
         if (good && clock_milliseconds() - last >= TICK) {
             last = clock_milliseconds();

@@ -4,7 +4,9 @@
 
 #include "clock.h"
 
-enum { CC = 0x14, RING_SLOTS = 65, ENTRY = 64, EVENTS = 4096 /* of one call of the library, so that the drive gets its doorbells soon */ };
+enum { CC = 0x14, CSTS = 0x1c, CSTS_READY = 1, RING_SLOTS = 65, ENTRY = 64, COMPLETION = 16 };
+enum { EVENTS = 64 /* of one call of the library, so that the drive gets its doorbells soon */ };
+enum { SLICE = 2000 /* microseconds after which guests are looked at again */ };
 
 /* One set-up of the library, with a namespace of each guest's extents. */
 static bool make_mediator(nvmed *m, const config *c, const layout *l, uint8_t *memory, reason *r) {
@@ -50,6 +52,7 @@ bool mediation_open(mediation *m, const config *c, const layout *l, uint8_t *mem
     reason more;
     *m = (mediation){.lanes = c->lanes, .memory = memory, .disk = open_drive(c, l, reach, r)};
     if (!m->disk) return false;
+    flight_begin(&m->flight, c);
     if (make_mediator(&m->mediator, c, l, memory, r)) {
         if (create_lanes(m, r)) return true;
         nvmed_free(&m->mediator);
@@ -60,9 +63,19 @@ bool mediation_open(mediation *m, const config *c, const layout *l, uint8_t *mem
 
 static unsigned steps(uint32_t from, uint32_t to) { return (to + RING_SLOTS - from) % RING_SLOTS; }
 
-/* Counts the entries that the drive is about to get. */
-static void count(const mediation *m, const nvmed_lane_rings *rings, uint32_t from, unsigned entries) {
-    for (unsigned i = 0; i < entries; i++) statistics_count(m->counts, m->memory + rings->submission + ENTRY * (uint64_t)((from + i) % RING_SLOTS));
+/* Notes the entries that the drive is about to get. */
+static void note_sent(mediation *m, unsigned lane, const nvmed_lane_rings *rings, unsigned entries) {
+    for (unsigned i = 0; i < entries; i++) {
+        const uint8_t *entry = m->memory + rings->submission + ENTRY * (uint64_t)((m->lane[lane].tail + i) % RING_SLOTS);
+        flight_sent(&m->flight, lane, entry);
+        if (m->counts) statistics_count(m->counts, entry);
+    }
+}
+
+/* Notes the completions that the mediator has taken, which the drive may not write over yet. */
+static void note_answered(mediation *m, unsigned lane, const nvmed_lane_rings *rings, unsigned completions) {
+    for (unsigned i = 0; i < completions; i++)
+        flight_answered(&m->flight, lane, m->memory + rings->completion + COMPLETION * (uint64_t)((m->lane[lane].head + i) % RING_SLOTS));
 }
 
 /* Writes the doorbells of a lane that are to have another value. */
@@ -72,7 +85,8 @@ static bool ring(mediation *m, unsigned lane, reason *r) {
     if (nvmed_rings(&m->mediator, lane, &now) != NVMED_OK) return refuse(r, "the mediator has no lane %u", lane);
     unsigned sent = steps(told->tail, now.tail), answered = steps(told->head, now.head);
     if (answered || !told->flying) told->since = clock_milliseconds();
-    if (m->counts) count(m, &now, told->tail, sent);
+    note_answered(m, lane, &now, answered);
+    note_sent(m, lane, &now, sent);
     told->flying += sent;
     told->flying -= answered < told->flying ? answered : told->flying;
     told->tail = now.tail;
@@ -83,31 +97,34 @@ static bool ring(mediation *m, unsigned lane, reason *r) {
 /* The drive can't be relied on any more: it is stopped, and what it had ends. */
 static bool give_up(mediation *m) {
     reason more;
-    uint64_t done;
     drive_close(m->disk, &more);
     m->disk = NULL;
     for (unsigned i = 0; i < m->lanes; i++) {
         nvmed_close(&m->mediator, i);
         m->lane[i].flying = 0;
     }
-    while (nvmed_work(&m->mediator, NVMED_OF_ALL, 0, EVENTS, &done) == NVMED_OK && done == EVENTS) {}
+    flight_begin(&m->flight, m->flight.config);
+    m->due = true;
     return false;
 }
 
+/* The drive gets its doorbells, and does what it has to do, where it is simulated. */
+static bool turn_drive(mediation *m, nvmed_status status, reason *r) {
+    if (status == NVMED_STRAY) return refuse(r, "the drive completed a command that it does not have");
+    for (unsigned i = 0; i < m->lanes; i++)
+        if (!ring(m, i, r)) return false;
+    if (drive_work(m->disk, EVENTS)) m->due = true;
+    return true;
+}
+
 bool mediation_work(mediation *m, reason *r) {
-    uint64_t done;
-    unsigned moved;
+    uint64_t done, begin = clock_microseconds();
     do {
         nvmed_status status = nvmed_work(&m->mediator, NVMED_OF_ALL, 0, EVENTS, &done);
-        if (!m->disk) return true;
-        if (status == NVMED_STRAY) {
-            refuse(r, "the drive completed a command that it does not have");
-            return give_up(m);
-        }
-        for (unsigned i = 0; i < m->lanes; i++)
-            if (!ring(m, i, r)) return give_up(m);
-        moved = drive_work(m->disk, EVENTS);
-    } while (done || moved);
+        m->due = done != 0;
+        if (m->disk && !turn_drive(m, status, r)) return give_up(m);
+        if (m->due) m->moved = clock_microseconds();
+    } while (m->due && m->moved - begin < SLICE);
     return true;
 }
 
@@ -122,13 +139,22 @@ bool mediation_check(mediation *m, reason *r) {
     return true;
 }
 
-unsigned mediation_flying(const mediation *m) {
-    unsigned sum = 0;
-    for (unsigned i = 0; i < m->lanes; i++) sum += m->lane[i].flying;
-    return sum;
+bool mediation_is_idle(const mediation *m) {
+    unsigned flying = 0;
+    for (unsigned i = 0; i < m->lanes; i++) flying += m->lane[i].flying;
+    return flying == 0 && !m->due;
 }
 
 void mediation_reset(mediation *m, uint32_t guest) { nvmed_reg_write(&m->mediator, guest, CC, 0); }
+
+bool mediation_is_idle_of(const mediation *m, uint32_t guest) { return !flight_has(&m->flight, guest) && !m->due; }
+
+/* After a reset the mediator shows that a controller is ready until the last of its commands has run out. */
+bool mediation_has_run_out(mediation *m, uint32_t guest) {
+    uint32_t status = 0;
+    nvmed_reg_read(&m->mediator, guest, CSTS, &status);
+    return !(status & CSTS_READY);
+}
 
 bool mediation_close(mediation *m, reason *r) {
     bool good = !m->disk || drive_close(m->disk, r);

@@ -4,6 +4,7 @@
 
 #include "config.h"
 #include "drive.h"
+#include "flight.h"
 #include "layout.h"
 #include "nvmed.h"
 #include "reason.h"
@@ -23,26 +24,33 @@ typedef struct mediation {
     drive *disk; /* NULL: it has failed, and was closed */
     const uint8_t *memory; /* where host address 0 would lie */
     statistics *counts;    /* of what the drive is given; NULL: nothing is counted */
+    flight flight;         /* whose commands the drive has */
     unsigned lanes;
     mediation_lane lane[NVME_LANES];
+    bool due;       /* more may be due at once */
+    uint64_t moved; /* when something was done last: microseconds */
 } mediation;
 
 /* Opens the drive, makes the mediator, and creates the lanes' queues. Where it fails nothing is left open. What the drive is given is not counted: who wants
  * that sets m->counts. */
 bool mediation_open(mediation *m, const config *c, const layout *l, uint8_t *memory, const window *reach, reason *r);
 
-/* Carries out what is due, until nothing is. False, with the reason, where the drive has failed: it is closed then, the lanes are closed, and what was
- * on its way has ended with an error that guests may try again. */
+/* Carries out what is due, until nothing is or some milliseconds are over: m->due says which. False, with the reason, where the drive has failed: it is
+ * closed then, the lanes are closed, and what was on its way has ended with an error that guests may try again. */
 bool mediation_work(mediation *m, reason *r);
 
 /* Looks at the drive itself: whether it still works, and has answered in time. As mediation_work. */
 bool mediation_check(mediation *m, reason *r);
 
-/* How many commands the drive has. */
-unsigned mediation_flying(const mediation *m);
+/* Whether nothing is due and the drive has no command, and the same with no command of the guest. */
+bool mediation_is_idle(const mediation *m);
+bool mediation_is_idle_of(const mediation *m, uint32_t guest);
 
 /* Ends a guest's controller as a reset does: its queues are gone, and its commands run out. */
 void mediation_reset(mediation *m, uint32_t guest);
+
+/* Whether they have, so that neither the mediator nor the drive accesses the guest's memory any more. */
+bool mediation_has_run_out(mediation *m, uint32_t guest);
 
 /* Closes the drive and gives back the mediator. False, with the reason, where the drive did not stop well. */
 bool mediation_close(mediation *m, reason *r);

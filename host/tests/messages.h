@@ -44,7 +44,7 @@ static inline void set_region(message *m, unsigned i, uint64_t address, uint64_t
 }
 
 /* Eight regions of a MiB each, as if all had a descriptor. */
-static inline message memory(void) {
+static inline message eight_regions(void) {
     message m = header(SYNC_SYSMEM, 192);
     for (unsigned i = 0; i < 8; i++) set_region(&m, i, (uint64_t)i << 20, 1 << 20, (uint64_t)i << 32);
     return m;

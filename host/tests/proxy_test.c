@@ -27,11 +27,11 @@ static void test_decode_good(void) {
     CHECK(decode(bar_access(BAR_READ, 0xffffffff, 9, 1, 1), 0, &q) == PROXY_OK && q.kind == PROXY_BAR_READ && q.bar.value == 0);
     CHECK(decode(header(SET_IRQFD, 0), 2, &q) == PROXY_OK && q.kind == PROXY_INTERRUPT && q.irq.interrupt == 100 && q.irq.resample == 101);
     CHECK(decode(header(DEVICE_RESET, 0), 0, &q) == PROXY_OK && q.kind == PROXY_RESET);
-    CHECK(decode(memory(), 8, &q) == PROXY_OK && q.kind == PROXY_MEMORY && q.memory.count == 8);
+    CHECK(decode(eight_regions(), 8, &q) == PROXY_OK && q.kind == PROXY_MEMORY && q.memory.count == 8);
     CHECK(q.memory.region[7].address == 7 << 20 && q.memory.region[7].length == 1 << 20 && q.memory.region[7].offset == UINT64_C(7) << 32 &&
           q.memory.region[7].fd == 107);
-    CHECK(decode(memory(), 0, &q) == PROXY_OK && q.memory.count == 0);
-    message m = memory();
+    CHECK(decode(eight_regions(), 0, &q) == PROXY_OK && q.memory.count == 0);
+    message m = eight_regions();
     set_region(&m, 3, 1, 1, 1); /* past the descriptors: says nothing */
     CHECK(decode(m, 3, &q) == PROXY_OK && q.memory.count == 3);
     set_region(&m, 0, UINT64_MAX - 8191, 4096, INT64_MAX - 8191);
@@ -49,7 +49,7 @@ static void test_decode_bad(void) {
     static const uint32_t commands[] = {RET, 8, 9, 255, 0x80000000, UINT32_MAX};
     for (size_t i = 0; i < sizeof commands / sizeof commands[0]; i++) CHECK(decode(header(commands[i], 0), 0, &q) == PROXY_COMMAND);
     for (unsigned count = 0; count <= 9; count++) {
-        CHECK(decode(memory(), count, &q) == (count <= 8 ? PROXY_OK : PROXY_COUNT));
+        CHECK(decode(eight_regions(), count, &q) == (count <= 8 ? PROXY_OK : PROXY_COUNT));
         CHECK(decode(header(SET_IRQFD, 0), count, &q) == (count == 2 ? PROXY_OK : PROXY_COUNT));
         CHECK(decode(header(DEVICE_RESET, 0), count, &q) == (count == 0 ? PROXY_OK : PROXY_COUNT));
         CHECK(decode(config_access(PCI_CFGREAD, 0, 0, 4), count, &q) == (count == 0 ? PROXY_OK : PROXY_COUNT));
@@ -95,7 +95,7 @@ static void test_regions(void) {
     };
     proxy_request q;
     for (size_t i = 0; i < sizeof bad / sizeof bad[0]; i++) {
-        message m = memory();
+        message m = eight_regions();
         set_region(&m, 2, bad[i].address, bad[i].length, bad[i].offset);
         CHECK(decode(m, 3, &q) == PROXY_REGION);
         CHECK(decode(m, 2, &q) == PROXY_OK);
@@ -172,7 +172,7 @@ static void test_replies(void) {
 
 /* Each message, a byte at a time, and every cut of it. */
 static void test_bytewise(void) {
-    message all[] = {memory(), config_access(PCI_CFGWRITE, 4, 6, 2), bar_access(BAR_WRITE, 0xfe000014, 1, 4, 1), header(SET_IRQFD, 0),
+    message all[] = {eight_regions(), config_access(PCI_CFGWRITE, 4, 6, 2), bar_access(BAR_WRITE, 0xfe000014, 1, 4, 1), header(SET_IRQFD, 0),
                      header(DEVICE_RESET, 0)};
     unsigned counts[] = {3, 0, 0, 2, 0};
     for (unsigned m = 0; m < 5; m++)
@@ -220,7 +220,7 @@ static void test_descriptors(void) {
         proxy_close(&p);
         close(peer);
         peer = pair(&p);
-        send_message(peer, memory(), cases[i].count);
+        send_message(peer, eight_regions(), cases[i].count);
         CHECK(turn(&p, &q, &there) == cases[i].memory);
         if (there) proxy_drop(&q);
         proxy_close(&p);
@@ -231,7 +231,7 @@ static void test_descriptors(void) {
     proxy p;
     unsigned before = open_descriptors();
     int peer = pair(&p);
-    message m = memory();
+    message m = eight_regions();
     for (unsigned i = 0; i < 3; i++) send_with(peer, m.bytes + i, 1, 3);
     CHECK(proxy_receive(&p, 0) == PROXY_OK && proxy_receive(&p, 0) == PROXY_OK && proxy_receive(&p, 0) == PROXY_LOST);
     close(peer);
@@ -249,7 +249,7 @@ static void test_attribution(void) {
     int peer = pair(&p);
     send_message(peer, config_access(PCI_CFGREAD, 0, 0, 4), 0);
     send_message(peer, header(SET_IRQFD, 0), 2);
-    send_message(peer, memory(), 1);
+    send_message(peer, eight_regions(), 1);
     CHECK(proxy_receive(&p, 0) == PROXY_OK && p.have == 44);
     CHECK(turn(&p, &q, &there) == PROXY_OK && there && q.kind == PROXY_CONFIG_READ);
     CHECK(turn(&p, &q, &there) == PROXY_OK && there && q.kind == PROXY_INTERRUPT);
@@ -258,7 +258,7 @@ static void test_attribution(void) {
     proxy_drop(&q);
     CHECK(turn(&p, &q, &there) == PROXY_OK && !there);
     /* requests that nobody took are closed with the connection */
-    send_message(peer, memory(), 8);
+    send_message(peer, eight_regions(), 8);
     CHECK(proxy_receive(&p, 0) == PROXY_OK && proxy_room(&p) == 0);
     CHECK(proxy_receive(&p, 0) == PROXY_OK);
     proxy_close(&p);

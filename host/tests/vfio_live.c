@@ -2,7 +2,7 @@
  *
  *     vfio_live ADDRESS        such as 0000:00:04.0
  *
- * It is started in a virtual machine by host/tests/live vfio. Its blocks 5, 6 and 100 to 355 are overwritten. */
+ * It is started in a virtual machine by `bench/vm.sh vfio`. Its blocks 5, 6 and 100 to 355 are overwritten. */
 #include <sys/mman.h>
 #include <unistd.h>
 
