@@ -20,7 +20,7 @@ get_kernel() {
     ! has_kernel || return 0
     mkdir -p "$cache"
     package=$(apt-cache depends linux-image-amd64 | sed -n 's/.*Depends: //p' | head -n 1)
-    (cd "$room" && apt-get download "$package" > /dev/null) || stop "the kernel's package could not be had: $package"
+    (cd "$room" && apt-get download "$package" > apt 2>&1) || stop "the kernel's package could not be had: $package"
     dpkg -x "$room/$package"*.deb "$room/kernel"
     rm -rf "$cache/modules"
     mkdir "$cache/modules"

@@ -1,9 +1,7 @@
 #include "flight.h"
 
-#include "bytes.h"
 #include "check.h"
-
-enum { WRITE = 1, READ = 2, FLUSH = 0, DATASET_MANAGEMENT = 9 };
+#include "entry.h"
 
 static config c;
 static flight f;
@@ -37,10 +35,10 @@ static void begin(void) {
 int main(void) {
     begin();
     CHECK(are(false, false));
-    send(0, 5, READ, 109);
+    send(0, 5, OPCODE_READ, 109);
     CHECK(are(true, false));
-    send(1, 5, WRITE, 139);
-    send(0, 6, READ, 120);
+    send(1, 5, OPCODE_WRITE, 139);
+    send(0, 6, OPCODE_READ, 120);
     CHECK(are(true, true));
     answer(1, 5);
     CHECK(are(true, false));
@@ -49,25 +47,25 @@ int main(void) {
     answer(0, 6);
     CHECK(are(false, false));
     /* a Flush and a Dataset Management may be anybody's, whatever stands where others have their block; so is a block that nobody has */
-    send(2, 0, FLUSH, 105);
+    send(2, 0, OPCODE_FLUSH, 105);
     CHECK(are(true, true));
     answer(2, 0);
-    send(2, 0, DATASET_MANAGEMENT, 105);
+    send(2, 0, OPCODE_DATASET_MANAGEMENT, 105);
     CHECK(are(true, true));
     answer(2, 0);
-    send(2, 0, READ, 140);
+    send(2, 0, OPCODE_READ, 140);
     CHECK(are(true, true));
     answer(2, 0);
     CHECK(are(false, false));
     /* what never was there is answered; what is there is sent again; identifiers and lanes beyond all limits */
     answer(3, 9);
-    send(3, 9, READ, 100);
-    send(3, 9, READ, 110);
+    send(3, 9, OPCODE_READ, 100);
+    send(3, 9, OPCODE_READ, 110);
     CHECK(are(false, true));
     answer(3, 9);
     answer(3, 9);
     CHECK(are(false, false));
-    send(1000, 0xffff, READ, 100);
+    send(1000, 0xffff, OPCODE_READ, 100);
     CHECK(are(true, false));
     answer(1000, 0xffff);
     CHECK(are(false, false));

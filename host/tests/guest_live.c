@@ -18,11 +18,12 @@
 #include <sys/socket.h>
 #include <unistd.h>
 
+#include "entry.h"
 #include "hostile.h"
 #include "lanes.h"
 #include "proxied.h"
 
-enum { COMPARE = 5, READ = 2, COMPARE_FAILURE = 0x285, STATUS = 0x7ff /* code and type of a status */ };
+enum { COMPARE_FAILURE = 0x285, STATUS = 0x7ff /* code and type of a status */ };
 enum { BY_SGL = 0x40, SEGMENT = 0x20, DESCRIPTOR = 16 /* bytes */, FLIGHT = SLOTS - 1, PAUSE = 500 /* microseconds */ };
 enum { LATE_READS = 16, LATE_BLOCKS = 8, LATE_SECONDS = 3 /* the drive needs less for all of them */ };
 enum { CHUNK = 256 /* blocks of a Read, 32 pages */, CHUNK_PAGES = CHUNK * 512 / PAGE_BYTES };
@@ -59,9 +60,9 @@ static void works(proxied *p) {
     lanes_more(d);
     /* block 5 is what lane 0 has written */
     for (unsigned i = 0; i < 512; i++) memory[DATA + i] = (uint8_t)(i * 3);
-    CHECK(run(d, 1, COMPARE, DATA, 0, 5, 0) == 0);
+    CHECK(run(d, 1, OPCODE_COMPARE, DATA, 0, 5, 0) == 0);
     memory[DATA + 511] ^= 1;
-    CHECK((run(d, 1, COMPARE, DATA, 0, 5, 0) & STATUS) == COMPARE_FAILURE);
+    CHECK((run(d, 1, OPCODE_COMPARE, DATA, 0, 5, 0) & STATUS) == COMPARE_FAILURE);
     end_drive(d);
 }
 
@@ -75,7 +76,7 @@ static void reads(proxied *p, const char *path) {
     uint64_t blocks = p->controller.found.blocks;
     for (uint64_t at = 0; at < blocks; at += CHUNK) {
         uint32_t count = (uint32_t)(blocks - at < CHUNK ? blocks - at : CHUNK);
-        wrong += run(d, at / CHUNK % 2, READ, DATA, count * 512 > 2 * PAGE_BYTES ? LISTS : DATA + PAGE_BYTES, at, count - 1) != 0;
+        wrong += run(d, at / CHUNK % 2, OPCODE_READ, DATA, count * 512 > 2 * PAGE_BYTES ? LISTS : DATA + PAGE_BYTES, at, count - 1) != 0;
         wrong += write(file, memory + DATA, count * 512) != (ssize_t)(count * 512);
     }
     CHECK(wrong == 0 && close(file) == 0);
@@ -106,7 +107,7 @@ static void put_endless(lane_state *l) {
     for (unsigned i = 0; i < FLIGHT; i++) {
         uint8_t *entry = memory + l->rings.submission + 64 * ((l->tail + i) % SLOTS);
         memset(entry, 0, 64);
-        entry[0] = READ;
+        entry[0] = OPCODE_READ;
         entry[1] = BY_SGL;
         put16(entry + 2, (uint16_t)i);
         put32(entry + 4, 1);
@@ -115,14 +116,20 @@ static void put_endless(lane_state *l) {
     l->tail = (l->tail + FLIGHT) % SLOTS;
 }
 
-/* Takes all completions of a lane. */
-static void take_endless(lane_state *l) {
-    for (unsigned i = 0; i < FLIGHT; i++) {
-        const volatile uint8_t *done = memory + l->rings.completion + 16 * l->head;
-        while ((done[14] & 1) != l->phase && !stopping) clock_pause(PAUSE);
-        l->head = (l->head + 1) % SLOTS;
-        if (l->head == 0) l->phase = !l->phase;
+/* Takes the next completion of a lane: where it lies, or NULL where the program is to stop. */
+static const volatile uint8_t *take(lane_state *l) {
+    const volatile uint8_t *done = memory + l->rings.completion + 16 * l->head;
+    while ((done[14] & 1) != l->phase) {
+        if (stopping) return NULL;
+        clock_pause(PAUSE);
     }
+    l->head = (l->head + 1) % SLOTS;
+    if (l->head == 0) l->phase = !l->phase;
+    return done;
+}
+
+static void take_endless(lane_state *l) {
+    for (unsigned i = 0; i < FLIGHT && take(l); i++) {}
 }
 
 /* The longest time that an access of a register took is printed. */
@@ -146,7 +153,7 @@ static void put_read(unsigned number) {
     lane_state *l = &lanes[0];
     uint8_t *entry = memory + l->rings.submission + 64 * l->tail;
     memset(entry, 0, 64);
-    entry[0] = READ;
+    entry[0] = OPCODE_READ;
     put16(entry + 2, (uint16_t)number);
     put32(entry + 4, 1);
     put64(entry + 24, DATA + (uint64_t)number * PAGE_BYTES);
@@ -167,12 +174,9 @@ static void busy(proxied *p) {
     drive *d = begin_drive(p);
     if (!d) return;
     begin_reads(d);
-    for (bool good = true; good && !stopping;) {
-        const volatile uint8_t *done = memory + l->rings.completion + 16 * l->head;
-        while ((done[14] & 1) != l->phase && !stopping) clock_pause(PAUSE);
+    const volatile uint8_t *done;
+    for (bool good = true; good && (done = take(l)) != NULL;) {
         put_read(done[12] % LATE_READS);
-        l->head = (l->head + 1) % SLOTS;
-        if (l->head == 0) l->phase = !l->phase;
         CHECK_MORE(good = drive_ring_completion(d, 0, l->head, &r) && drive_ring_submission(d, 0, l->tail, &r), r.text);
     }
 }

@@ -1,6 +1,7 @@
 #include "hostile.h"
 
 #include "clock.h"
+#include "entry.h"
 #include "pci.h"
 
 /* Where the guest has its queues, lists and data. Each queue has a page, submission queues first. */
@@ -62,7 +63,8 @@ static uint64_t a_list(hostile_guest *h) { return chance(h, 50) ? an_address(h) 
 
 /* A command of the NVM command set, or another; it names a few blocks of the guest's, or any number of any. */
 static void fill_io(hostile_guest *h, uint8_t *entry) {
-    static const uint8_t known[] = {0x00, 0x01, 0x02, 0x05, 0x08, 0x09};
+    static const uint8_t known[] = {OPCODE_FLUSH,   OPCODE_WRITE,        OPCODE_READ,
+                                    OPCODE_COMPARE, OPCODE_WRITE_ZEROES, OPCODE_DATASET_MANAGEMENT};
     uint64_t blocks = h->peer->controller.found.blocks + 1;
     entry[0] = chance(h, 90) ? known[pick(&h->random, sizeof known)] : (uint8_t)pick(&h->random, 256);
     entry[1] = chance(h, 80) ? 0 : (uint8_t)pick(&h->random, 256);
