@@ -11,8 +11,9 @@
 #                             with a guest that writes, reads back and compares beside a hostile one. The image is looked at as above
 #     bench/vm.sh firmware    SeaBIOS boots a boot sector from the shared drive, two guests at once, each its own; EDK2 finds it and reads a file
 #     bench/vm.sh faults      a guest is killed in the middle of its reads and writes ten times, and comes back each time, beside one that goes on; QEMU's
-#                             controller stops answering; it shows a fatal status; it has a block that cannot be read; 1,000,000 rounds of random input for
-#                             transport and configuration
+#                             controller stops answering; it shows a fatal status; it has a block that cannot be read; it is slow, and a guest's reset and
+#                             next QEMU wait for its Reads, a shutdown not for those of others; a guest's lists have no end; a message is not ended;
+#                             1,000,000 rounds of random input for transport and configuration
 #     bench/vm.sh speed       fio in one guest on the program and on QEMU's own controller, by turns, on the same image with the same kernel words; and the
 #                             processor time that the program needs for a command
 #     bench/vm.sh hour [N]    two Linux guests at work and a hostile one for an hour, or N minutes: the program's memory and descriptors are constant

@@ -54,5 +54,5 @@ run() {
     check "its memory is constant from minute $steady on" is_constant 4 "$growth"
     check "so are its descriptors" is_constant 8 0
     check "the blocks that are no guest's" gaps_are_painted
-    grep -hE '^round [0-9]+' "$room"/serial.[01] | sort | uniq -c | tail -n 1
+    echo "rounds of guests 0 and 1: $(grep -c '^round ' "$room/serial.0"), $(grep -c '^round ' "$room/serial.1")"
 }

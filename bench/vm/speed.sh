@@ -67,7 +67,7 @@ table() {
     while read -r job; do
         ours=$(middle program "$job")
         theirs=$(middle qemu "$job")
-        printf '%-10s %12.0f %12.0f %7d\n' "$job" "$ours" "$theirs" "$(awk -v a="$ours" -v b="$theirs" 'BEGIN { print 100 * a / b }')"
+        printf '%-10s %12.0f %12.0f %7.0f\n' "$job" "$ours" "$theirs" "$(awk -v a="$ours" -v b="$theirs" 'BEGIN { print 100 * a / b }')"
         awk -v a="$ours" -v b="$theirs" -v least="$least" 'BEGIN { exit !(100 * a >= least * b) }' || good=1
     done < <(cut -d ' ' -f 1 "$room/speed.qemu" | sort -u)
     awk '{ time += $1; count += $2 } END { printf "%d commands, %.1f microseconds of the program'"'"'s processor time for each\n", count, 1e6 * time / count }' \
