@@ -208,6 +208,7 @@ static double beside(int held) {
     double best = 0;
     open_host(&h, 2, 1, 1, held ? 2 : SLOTS);
     if (held) {
+        if (nvmed_share(&h.mediator, 1, 1) != NVMED_OK || nvmed_share(&h.mediator, 0, HELD) != NVMED_OK) give_up("nvmed_share refused");
         h.depth = HELD;
         send(&h, 0);
         work(&h, 2 * HELD);

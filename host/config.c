@@ -1,11 +1,8 @@
 #include "config.h"
 
-#include <errno.h>
-#include <fcntl.h>
 #include <inttypes.h>
 #include <stdlib.h>
 #include <string.h>
-#include <unistd.h>
 
 enum { WORDS = 256 }; /* of a line */
 
@@ -196,8 +193,8 @@ static bool on_share(parser *p) {
     config_guest *g = guest_of(p);
     uint64_t tags;
     if (!g) return false;
-    if (g->share) return FAULT(p, "the guest's share stands in line %u already", g->share_line);
-    if (!number(p, "the share of tags", p->word[2], 1, CONFIG_LANES * CONFIG_TAGS, &tags)) return false;
+    if (g->share) return FAULT(p, "the guest's share is in line %u already", g->share_line);
+    if (!number(p, "the share of tags", p->word[2], 1, CONFIG_TAGS, &tags)) return false;
     g->share = (uint32_t)tags;
     g->share_line = p->line;
     return true;
@@ -318,6 +315,20 @@ static bool on_line(parser *p) {
     return FAULT(p, "unknown word: %.40s", p->word[0]);
 }
 
+/* A command may need a tag for each extent of its guest, and a lane has 64 tags. */
+static bool shares_fit(parser *p) {
+    const config *c = p->c;
+    unsigned all = 0;
+    for (unsigned i = 0; i < c->guests; i++) {
+        const config_guest *g = &c->guest[i];
+        p->line = g->share ? g->share_line : g->line;
+        if (g->share && g->share < g->extents) return FAULT(p, "the share of guest %u is less than the %u tags that a command of it may need", i, g->extents);
+        all += g->share ? g->share : g->extents;
+        if (all > CONFIG_TAGS) return FAULT(p, "the guests up to %u have shares of %u tags, and a lane has %u", i, all, CONFIG_TAGS);
+    }
+    return true;
+}
+
 /* What can be seen only once all lines were read. The line of a message is that of the guest or extent; of what is missing, the last one. */
 static bool whole(parser *p) {
     config *c = p->c;
@@ -329,15 +340,13 @@ static bool whole(parser *p) {
         if (g->extents == 0) return FAULT(p, "guest %u has no line 'extent'", i);
         if (c->drive == CONFIG_QEMU && !g->file) return FAULT(p, "guest %u needs a file of memory, which the drive's QEMU maps, too", i);
         if (!g->listen && !g->starts) return FAULT(p, "guest %u has no line 'listen' or 'start'", i);
-        p->line = g->share_line;
-        if (g->share > CONFIG_TAGS * c->lanes) return FAULT(p, "the share of guest %u is more than the %u tags that there are", i, CONFIG_TAGS * c->lanes);
         for (unsigned k = 0; c->drive == CONFIG_RAM && k < g->extents; k++) {
             p->line = g->extent[k].line;
             if (g->extent[k].base + g->extent[k].blocks > c->ram / 512)
                 return FAULT(p, "the extent of guest %u ends beyond the drive's %" PRIu64 " blocks", i, c->ram / 512);
         }
     }
-    return true;
+    return shares_fit(p);
 }
 
 bool config_parse(config *c, const char *bytes, size_t length, reason *r) {
@@ -353,38 +362,6 @@ bool config_parse(config *c, const char *bytes, size_t length, reason *r) {
     }
     if (p.line > 1) p.line--;
     return whole(&p);
-}
-
-/* Reads a file up to its end, or to the end of the room. */
-static bool read_all(int fd, char *room, size_t most, size_t *length) {
-    for (*length = 0; *length < most;) {
-        ssize_t got = read(fd, room + *length, most - *length);
-        if (got < 0 && errno == EINTR) continue;
-        if (got < 0) return false;
-        if (got == 0) return true;
-        *length += (size_t)got;
-    }
-    return true;
-}
-
-bool config_read(config *c, const char *path, reason *r) {
-    size_t length = 0;
-    reason why = {""};
-    bool good = false;
-    int fd = open(path, O_RDONLY | O_CLOEXEC);
-    if (fd < 0) return refuse(r, "%.80s: cannot open: %s", path, strerror(errno));
-    char *room = malloc(CONFIG_BYTES + 1);
-    if (!room) {
-        refuse(r, "%.80s: out of memory", path);
-    } else if (!read_all(fd, room, CONFIG_BYTES + 1, &length)) {
-        refuse(r, "%.80s: cannot read: %s", path, strerror(errno));
-    } else {
-        good = config_parse(c, room, length, &why);
-        if (!good) refuse(r, "%.80s: %.170s", path, why.text);
-    }
-    free(room);
-    close(fd);
-    return good;
 }
 
 uint64_t config_blocks(const config *c) {

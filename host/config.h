@@ -37,7 +37,7 @@ typedef struct config_guest {
     config_extent extent[CONFIG_EXTENTS]; /* its namespace, in this order */
     unsigned extents;                     /* 1 to 8 */
     unsigned line;                        /* where it was written */
-    uint32_t share;                       /* tags that it may hold at a time, 1 to 64 times the lanes; 0: the default */
+    uint32_t share;                       /* tags of each lane that it may hold at a time, 1 to 64; 0: its part of those that are left */
     unsigned share_line;
     uint32_t descriptors; /* of an SGL, 1 to 4,096; 1,024 where no line says it */
     bool descriptors_said;

@@ -53,7 +53,7 @@ extern "C" {
 /* The version of this interface. Its major number changes when a call or a struct changes or goes: programs must be compiled anew. Its minor number
  * changes when calls are added: programs that were compiled before go on as they are. NVMED_VERSION is both in one number, which may be compared. */
 #define NVMED_VERSION_MAJOR 2
-#define NVMED_VERSION_MINOR 1
+#define NVMED_VERSION_MINOR 2
 #define NVMED_VERSION (NVMED_VERSION_MAJOR * 65536u + NVMED_VERSION_MINOR)
 
 /* What a call returns. All but NVMED_OK are errors. */
@@ -190,6 +190,7 @@ uint32_t nvmed_raw_work(nvmed_handle *, uint32_t, uint32_t, uint64_t, uint64_t *
 uint32_t nvmed_raw_rings(nvmed_handle *, uint32_t, nvmed_lane_rings *);
 uint32_t nvmed_raw_pending(nvmed_handle *, uint32_t, uint32_t, uint32_t *);
 uint32_t nvmed_raw_seen(nvmed_handle *, uint32_t, uint32_t *, size_t);
+uint32_t nvmed_raw_share(nvmed_handle *, uint32_t, uint32_t);
 uint32_t nvmed_raw_close(nvmed_handle *, uint32_t, uint8_t *, size_t);
 uint32_t nvmed_raw_memory(nvmed_handle *, uint32_t, uint64_t, uint8_t *, size_t, const uint8_t **, uint64_t *);
 uint32_t nvmed_raw_block(nvmed_handle *, uint64_t, const uint8_t **);
@@ -229,7 +230,8 @@ static inline nvmed_status nvmed_new(nvmed *m, const nvmed_sizes *sizes, const u
  * those that the drive uses. Guests' regions and the mediator's area lie in it; nothing else of it is touched, so the rest may be holes. The library
  * keeps no pointer: this header lends the memory to each call. The drive may have any blocks, and the memory any bytes; the lanes' completion rings are
  * cleared. SAFE, EXACT, CONTAINED and PRIVATE as nvmed_new.
- * Errors: as of nvmed_new; BAD_SIZE, too, where host_bytes is above 2^47 or disk_blocks above 2^48. */
+ * Each guest has a share of a lane's 64 tags (nvmed_share).
+ * Errors: as of nvmed_new; BAD_SIZE, too, where host_bytes is above 2^47 or disk_blocks above 2^48, or the guests have more than 64 extents together. */
 static inline nvmed_status nvmed_serve(nvmed *m, void *memory, const nvmed_sizes *sizes, const uint32_t *limits, uint64_t guests,
                                        const nvmed_region *regions, uint64_t region_count, const nvmed_extent *extents, uint64_t extent_count) {
     nvmed_status status;
@@ -307,7 +309,8 @@ static inline nvmed_status nvmed_due(nvmed *m, const nvmed_event *event, uint32_
 
 /* Carries out what is due of a guest (its admin commands; its commands that wait are taken and planned), of a lane (the physical controller's side,
  * completions, and those for guests), or of all (`number` counts for nothing then), `most` events at most: *done is how many there were. Where the
- * answer is OK and *done is less than `most`, nothing of that scope is left to be done; what a full completion queue holds up is not due. SAFE, EXACT
+ * answer is OK and *done is less than `most`, nothing of that scope is left to be done; what a full completion queue holds up is not due, nor, of
+ * nvmed_serve, is a command for which its guest's share of a lane has no room (nvmed_share). SAFE, EXACT
  * (each event was due, or was wanted for a command's plan, and of that scope; *done counts them; no act, no failure, and with the answer OK no command
  * was given up), CONTAINED, PRIVATE. Of all, a guest gets at most 64 events before the next guest or lane that has something. This order is not proved.
  * Errors: NULL, NO_MEDIATOR, NO_SUCH (*done is 0), NO_MEMORY: *done events were made. Then there was no memory for what is left, or none for the plan of
@@ -357,6 +360,16 @@ static inline nvmed_status nvmed_changed(nvmed *m, nvmed_seen *seen, uint32_t *g
     }
     /* the first number that is no guest's ends the loop */
     return status == NVMED_IDLE || status == NVMED_IGNORED ? NVMED_OK : status;
+}
+
+/* Gives a guest a share of `tags` of each lane's 64 tags: nvmed_work takes a command of the guest for a lane only while the guest's tags there, with one
+ * for each of its extents, are no more than that. While no guest has more than its share of a lane, a guest whose
+ * share has room there has its next command taken (proved). That nvmed_work keeps every guest within its share is not proved. At the start each guest's share is one tag for each of its extents, and the tags that are left
+ * are divided equally. What the guest has already stays its own. NVMED_TAKE is not bound by shares. It needs no memory. SAFE, EXACT.
+ * Errors: NULL, NO_MEDIATOR, NO_SUCH (above 255, or the mediator is a simulation), IGNORED (no such guest), BAD_SIZE (`tags` are fewer than the guest has
+ * extents, or all shares together would be above 64); nothing has changed then. */
+static inline nvmed_status nvmed_share(nvmed *m, uint32_t guest, uint32_t tags) {
+    return m ? (nvmed_status)nvmed_raw_share(&m->handle, guest, tags) : NVMED_NULL;
 }
 
 /* Closes a lane, where the drive can't be relied on any more. The host has stopped the drive before. Completions that are there are read as long as they

@@ -20,6 +20,13 @@ static void refused(const char *what, nvmed_status status, nvmed_sizes sizes, nv
     want(what, NVMED_NO_MEDIATOR, nvmed_free(&m));
 }
 
+/* Guests with eight extents each: one command of each may need as many tags, and a lane has 64. */
+static nvmed_status crowded(nvmed *m, uint32_t guests) {
+    nvmed_extent many[128];
+    for (uint32_t i = 0; i < 8 * guests; i++) many[i] = (nvmed_extent){i / 8, 2 * i, 1};
+    return nvmed_serve(m, memory, &good, limits, guests, regions, 1, many, 8 * guests);
+}
+
 static void set_ups(void) {
     nvmed m = NVMED_INIT;
     nvmed_sizes s = good;
@@ -33,6 +40,8 @@ static void set_ups(void) {
     want("no extents", NVMED_NULL, nvmed_serve(&m, memory, &good, limits, 1, regions, 1, NULL, 1));
     want("17 guests", NVMED_TOO_MANY_GUESTS, nvmed_serve(&m, memory, &good, limits, 17, regions, 1, extents, 1));
     want("a guest without extents", NVMED_BAD_SIZE, nvmed_serve(&m, memory, &good, limits, 2, regions, 1, extents, 1));
+    count("nvmed_serve(");
+    left("72 extents", crowded(&m, 9) == NVMED_BAD_SIZE && memory[AREA + 0x2000] == 0xee);
     refused("a limit of 0", NVMED_BAD_SIZE, good, r, e, 0);
     refused("a limit of 4,097", NVMED_BAD_SIZE, good, r, e, 4097);
     for (int i = 0; i < WIDE; i++) {
@@ -74,6 +83,7 @@ static void not_for(nvmed *m, nvmed_status status) {
         want("close", answer, nvmed_close(m, n));
         want("pending", answer, nvmed_pending(m, n, vectors, &some));
         left("rings and pending", rings.entries == 0x5a5a5a5a && (status == NVMED_NULL || some == 0));
+        want("share", answer, nvmed_share(m, n, 64));
         want("changed", status, nvmed_changed(m, &seen, &changed));
         left("changed", seen.vectors[n % 16][n % NVMED_VECTORS] == 0x5a5a5a5a && (status == NVMED_NULL || changed == 0));
     }
@@ -102,6 +112,8 @@ static void numbers_everywhere(nvmed *m) {
         if (n) want("close", NVMED_NO_SUCH, nvmed_close(m, n));
         want("pending", n == 0 ? NVMED_OK : n > 255 ? NVMED_NO_SUCH : NVMED_IGNORED, nvmed_pending(m, n, vectors, &count));
         left("pending", count == 0);
+        want("share", n == 0 ? NVMED_OK : n > 255 ? NVMED_NO_SUCH : NVMED_IGNORED, nvmed_share(m, n, 64));
+        want("share", n >= 1 && n <= 64 ? NVMED_OK : NVMED_BAD_SIZE, nvmed_share(m, 0, n));
         want("memory", NVMED_NO_SUCH, nvmed_memory(m, n == 1 || n > 255 ? 0 : n, 0, bytes, sizeof bytes, &at, &done));
         want("block", NVMED_NO_SUCH, nvmed_block(m, n, &at));
         want("kept", NVMED_NO_SUCH, nvmed_kept(m, n, &word));
@@ -129,6 +141,7 @@ static void numbers_everywhere(nvmed *m) {
         left("changed", count == ((uint32_t)p != 0) && seen.vectors[0][i % NVMED_VECTORS] == 0 && seen.vectors[1][0] == (uint32_t)p);
         want("changed", NVMED_OK, nvmed_changed(m, &seen, &count));
         left("changed", count == 0);
+        want("share", (uint32_t)p >= 1 && (uint32_t)p <= 64 ? NVMED_OK : NVMED_BAD_SIZE, nvmed_share(m, 0, (uint32_t)p));
         want("memory", NVMED_NO_SUCH, nvmed_memory(m, 0, p, bytes, sizeof bytes, &at, &done));
         want("block", NVMED_NO_SUCH, nvmed_block(m, p, &at));
         want("kept", NVMED_NO_SUCH, nvmed_kept(m, p, &word));
@@ -178,6 +191,11 @@ int main(void) {
          && memory[AREA + LANE_BYTES - 1] == 0xee && memory[0] == 0xee);
     numbers_everywhere(&m);
     stray(&m);
+    want("free", NVMED_OK, nvmed_free(&m));
+    count("nvmed_serve(");
+    left("64 extents", crowded(&m, 8) == NVMED_OK);
+    want("shares of 8 each", NVMED_BAD_SIZE, nvmed_share(&m, 7, 9));
+    want("shares of 8 each", NVMED_OK, nvmed_share(&m, 7, 8));
     want("free", NVMED_OK, nvmed_free(&m));
     left("free", m.memory == NULL && m.bytes == 0);
     want("free again", NVMED_NO_MEDIATOR, nvmed_free(&m));

@@ -65,16 +65,8 @@ static bool map_memory(host *h, reason *r) {
     return layout_window(&h->layout, c, &h->row, &h->reach, r);
 }
 
-/* The library has no shares of tags yet. */
-static bool has_no_shares(const config *c, reason *r) {
-    for (unsigned g = 0; g < c->guests; g++)
-        if (c->guest[g].share) return refuse(r, "line %u: shares are not carried out in this version", c->guest[g].share_line);
-    return true;
-}
-
 static bool begin(host *h, bool counting, reason *r) {
     char text[256];
-    if (!has_no_shares(&h->config, r)) return false;
     if (!map_memory(h, r) || !mediation_open(&h->mediation, &h->config, &h->layout, h->row.bytes, &h->reach, r)) return false;
     statistics_begin(&h->counts, &h->config);
     if (counting) h->mediation.counts = &h->counts;

@@ -28,6 +28,21 @@ static bool make_mediator(nvmed *m, const config *c, const layout *l, uint8_t *m
     return status == NVMED_OK || refuse(r, "the mediator refuses the set-up: status %d", (int)status);
 }
 
+/* Each guest gets its share of a lane's tags: that of its line, or what one command of it may need and its part of the tags that are left. All have the least
+ * first, so that no share is too large on the way. */
+static bool give_shares(nvmed *m, const config *c, reason *r) {
+    unsigned left = CONFIG_TAGS, unnamed = 0;
+    nvmed_status status = NVMED_OK;
+    for (unsigned g = 0; g < c->guests; g++) {
+        left -= c->guest[g].share ? c->guest[g].share : c->guest[g].extents;
+        unnamed += !c->guest[g].share;
+    }
+    for (unsigned g = 0; g < c->guests && status == NVMED_OK; g++) status = nvmed_share(m, g, c->guest[g].extents);
+    for (unsigned g = 0; g < c->guests && status == NVMED_OK; g++)
+        status = nvmed_share(m, g, c->guest[g].share ? c->guest[g].share : c->guest[g].extents + left / unnamed);
+    return status == NVMED_OK || refuse(r, "the mediator refuses a share: status %d", (int)status);
+}
+
 static drive *open_drive(const config *c, const layout *l, const window *reach, reason *r) {
     nvme_needs needs = {l->admin, config_blocks(c), c->lanes};
     switch (c->drive) {
@@ -54,7 +69,7 @@ bool mediation_open(mediation *m, const config *c, const layout *l, uint8_t *mem
     if (!m->disk) return false;
     flight_begin(&m->flight, c);
     if (make_mediator(&m->mediator, c, l, memory, r)) {
-        if (create_lanes(m, r)) return true;
+        if (give_shares(&m->mediator, c, r) && create_lanes(m, r)) return true;
         nvmed_free(&m->mediator);
     }
     drive_close(m->disk, &more);

@@ -16,7 +16,7 @@ static reason r;
     "guest 0 memory 512M\n"                                                                                                                               \
     "extent 0 1000 64\n"                                                                                                                                  \
     "extent 0 0x500 0x20\n"                                                                                                                               \
-    "share 0 128\n"                                                                                                                                       \
+    "share 0 40\n"                                                                                                                                        \
     "version 0 1.2\n"                                                                                                                                     \
     "descriptors 0 4096\n"                                                                                                                                \
     "listen 0 /run/guest0.sock\n"                                                                                                                         \
@@ -42,7 +42,7 @@ static void test_good(void) {
     CHECK_MORE(parse(GOOD), r.text);
     CHECK(c.guests == 2 && c.lanes == 2 && c.drive == CONFIG_RAM && c.ram == 1 << 20 && !strcmp(c.image, "/var/tmp/disk"));
     CHECK(c.guest[0].memory == 512u << 20 && c.guest[0].extents == 2 && c.guest[0].extent[0].base == 1000 && c.guest[0].extent[0].blocks == 64);
-    CHECK(c.guest[0].extent[1].base == 0x500 && c.guest[0].extent[1].blocks == 0x20 && c.guest[0].share == 128 && c.guest[0].version == 0x10200);
+    CHECK(c.guest[0].extent[1].base == 0x500 && c.guest[0].extent[1].blocks == 0x20 && c.guest[0].share == 40 && c.guest[0].version == 0x10200);
     CHECK(c.guest[0].descriptors == 4096 && !strcmp(c.guest[0].listen, "/run/guest0.sock") && c.guest[0].starts == 0);
     CHECK(c.guest[1].memory == 4096 && c.guest[1].extents == 1 && c.guest[1].share == 0 && c.guest[1].version == 0 && c.guest[1].descriptors == 1024);
     CHECK(c.guest[1].starts == 6 && !c.guest[1].listen && !c.guest[1].start[6]);
@@ -146,10 +146,13 @@ static void test_extents(void) {
 }
 
 static void test_rest(void) {
-    refused(G0 "share 0 0\n", "line 2: the share of tags is 0, not in 1 to 512");
-    refused(G0 "share 0 513\n", "line 2: the share of tags is 513, not in 1 to 512");
-    refused(G0 "share 0 1\nshare 0 1\n", "line 3: the guest's share stands in line 2 already");
-    refused(REST "extent 0 0 1\nlisten 0 a\nshare 0 65\n", "line 5: the share of guest 0 is more than the 64 tags that there are");
+    refused(G0 "share 0 0\n", "line 2: the share of tags is 0, not in 1 to 64");
+    refused(G0 "share 0 65\n", "line 2: the share of tags is 65, not in 1 to 64");
+    refused(G0 "share 0 1\nshare 0 1\n", "line 3: the guest's share is in line 2 already");
+    refused(REST "extent 0 0 1\nextent 0 2 1\nlisten 0 a\nshare 0 1\n", "line 6: the share of guest 0 is less than the 2 tags that a command of it may need");
+    refused(REST "extent 0 0 1\nlisten 0 a\nshare 0 64\nguest 1 memory 4K\nextent 1 1 1\nlisten 1 b\n",
+            "line 6: the guests up to 1 have shares of 65 tags, and a lane has 64");
+    CHECK(parse(REST "extent 0 0 1\nlisten 0 a\nshare 0 63\nguest 1 memory 4K\nextent 1 1 1\nlisten 1 b\n"));
     refused(G0 "descriptors 0 4097\n", "line 2: the count of descriptors is 4097, not in 1 to 4096");
     refused(G0 "descriptors 0 1024\ndescriptors 0 2\n", "line 3: the guest's count of descriptors stands in a former line already");
     refused(G0 "version 0 2.1\n", "line 2: the version is none of 1.0, 1.1, 1.2, 1.2.1, 1.3, 1.4 and 2.0: 2.1");

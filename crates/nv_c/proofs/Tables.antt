@@ -9,6 +9,7 @@ use Rattle.nv_c.specs.declared.setup.Region.{Region}
 use Rattle.nv_mem.specs.declared.region.Region as mem
 use Rattle.nv_ns.specs.BlockRange as ns
 use Rattle.nv_world_model.specs.Geometry.{Guest}
+use Rattle.nv_host.specs.Served.{serving_refusal_of, unless_crowded}
 use Rattle.nv_world_model.specs.SetUp.{SetUp, TooManyGuests, host_refusal_of, most_guests, refusal_of}
 
 -- one more member, of which something is put behind the rest, or nothing
@@ -95,11 +96,14 @@ given_count h rs es from [] = refl
 given_count h rs es from (l ∷ ls) = ap suc (given_count h rs es (from + 1) ls)
 
 -- where they are more than 16 the set-up is refused, by either limits
-pub too_many_hosted : (s : SetUp) → 16 < length s.geometry.guests → host_refusal_of s ≡ Some TooManyGuests
+too_many_hosted : (s : SetUp) → 16 < length s.geometry.guests → host_refusal_of s ≡ Some TooManyGuests
 unfolding host_refusal_of
 too_many_hosted s more =
     let is : nat_lt most_guests (length s.geometry.guests) ≡ true = grind (arith, nat_tests, more) in
     rw is refl
+
+pub too_many_serving : (s : SetUp) → 16 < length s.geometry.guests → serving_refusal_of s ≡ Some TooManyGuests
+too_many_serving s more = ap (unless_crowded s.geometry.guests) (too_many_hosted s more)
 
 pub too_many : (s : SetUp) → 16 < length s.geometry.guests → refusal_of s ≡ Some TooManyGuests
 unfolding refusal_of

@@ -14,7 +14,7 @@ use Rattle.nv_c.specs.Work.{IsWorkedFor}
 use Rattle.nv_c.specs.declared.working.Scope.{Scope}
 use Rattle.nv_c.specs.declared.working.Why.{Why}
 use Rattle.nv_c.specs.declared.working.Why.TheVariants as why
-use Rattle.nv_host.specs.Served.{AreRingsAlone, IsAtStart as IsFirst, Served}
+use Rattle.nv_host.specs.Served.{AreRingsAlone, IsAtStart as IsFirst, Served, serving_refusal_of}
 use Rattle.nv_mediator.specs.Hosted.{Hosted, IsAtStart, IsMade, hosted_world, may_want}
 use Rattle.nv_mediator.specs.Refused.{refused}
 use Rattle.nv_mediator.specs.declared.refusal.Refusal.{Refusal}
@@ -26,7 +26,7 @@ use Rattle.nv_model.specs.declared.reply.Reply.{Reply}
 use Rattle.nv_model.specs.declared.reply.Reply.TheVariants as reply
 use Rattle.nv_world_model.specs.declared.event.Event.{Event}
 use Rattle.nv_world_model.specs.Geometry.{Guest}
-use Rattle.nv_world_model.specs.SetUp.{Refusal as Reason, SetUp, host_refusal_of, refusal_of}
+use Rattle.nv_world_model.specs.SetUp.{Refusal as Reason, SetUp, refusal_of}
 use Rattle.nv_world_model.specs.Due.{due}
 
 -- ---- the numbers of `enum nvmed_status`, as the header has them
@@ -255,11 +255,11 @@ IsOpened s before status after =
     ⊎ ((before ≡ None) × (after ≡ None) × IsRefused refusal_of s status)
     ⊎ (IsSome before × (after ≡ before) × (status ≡ in_use))
 
--- the same with one that is lent the host's memory, by the limits of a host; the memory that is lent is as long as the set-up says
+-- the same with one that is lent the host's memory, by the limits of a host and the shares of its guests; the memory that is lent is as long as the set-up says
 abbrev pub IsServing : SetUp → (lent left : List ℕ) → (before : Option Held) → (status : ℕ) → (after : Option Held) → Type 0
 IsServing s lent left before status after =
     ((status ≡ ok) × (before ≡ None) × (length lent ≡ s.host_bytes) × ((h : Served) × (after ≡ Some (Serving h)) × IsFirst s h left × IsKept (Serving h)))
-    ⊎ ((before ≡ None) × (after ≡ None) × IsRefused host_refusal_of s status)
+    ⊎ ((before ≡ None) × (after ≡ None) × IsRefused serving_refusal_of s status)
     ⊎ ((before ≡ None) × (after ≡ None) × (length lent ≢ s.host_bytes) × (status ≡ other_memory))
     ⊎ (IsSome before × (after ≡ before) × (status ≡ in_use))
 

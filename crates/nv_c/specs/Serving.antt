@@ -1,6 +1,6 @@
 -- What a call from C does to a mediator that is lent the host's memory, and what its answer says.
 use Rattle.std.specs.Prelude.{◌≡◌, ◌+◌, ◌≢◌, ◌⊎◌, ◌<◌, ◌≤◌, ℕ, true, false, ◌&&◌, if◌then◌else◌, IsTrue, length, List, map, Option, Some, None, option_map, slice_get, slice_set}
-use Rattle.nv_c.specs.Calls.{closed, dword_told, idle, ignored, no_memory, no_such, ok, status_of, stray}
+use Rattle.nv_c.specs.Calls.{bad_size, closed, dword_told, idle, ignored, no_memory, no_such, ok, status_of, stray}
 use Rattle.nv_c.specs.Names.{Names}
 use Rattle.nv_c.specs.declared.event.Event as c
 use Rattle.nv_c.specs.declared.rings.Rings.{Rings}
@@ -11,7 +11,10 @@ use Rattle.nv_core.specs.Reaping.{waits_in}
 use Rattle.nv_core.specs.Seat.{bytes_told}
 use Rattle.nv_host.specs.Closing.{AreDone, IsEndedBy, IsLaneAlone, IsOver, IsRingAlone}
 use Rattle.nv_host.specs.Served.{IsDone, IsNext, IsUnreached, LeadsTo, Served, is_closed, is_offered, is_reap, is_served}
+use Rattle.nv_host.specs.Sharing.{IsShare, IsShareRefused}
 use Rattle.nv_host.specs.Work.{IsWorked, scene}
+use Rattle.nv_host.specs.declared.shares.ShareRefusal.{ShareRefusal}
+use Rattle.nv_host.specs.declared.shares.ShareRefusal.TheVariants as refusal
 use Rattle.nv_host.specs.declared.worked.Scope.{Scope as Hosts}
 use Rattle.nv_host.specs.declared.worked.Scope.TheVariants as hosts
 use Rattle.nv_host.specs.declared.worked.Why.{Why}
@@ -144,6 +147,18 @@ IsSeen (Some c) before after status =
 abbrev pub IsSeenTold : (guest : ℕ) → (before after : List ℕ) → (old : Served) → (status : ℕ) → (new : Served) → Type 0
 IsSeenTold guest before after old status new = (new ≡ old) × IsSeen (slice_get old.side.controllers guest) before after status
 
+-- why a guest is not given a share, as it is answered
+abbrev pub status_of_share : ShareRefusal → ℕ
+status_of_share refusal.NoGuest = ignored
+status_of_share refusal.TooSmall = bad_size
+status_of_share refusal.TooLarge = bad_size
+
+-- a guest was given a share of so many tags, or it was not, for a reason that holds
+abbrev pub IsShareGiven : (guest tags : ℕ) → (old : Served) → (status : ℕ) → (new : Served) → Type 0
+IsShareGiven guest tags old status new =
+    (status ≡ ok) × IsShare guest tags old new
+    ⊎ ((why : ShareRefusal) × (status ≡ status_of_share why) × (new ≡ old) × IsShareRefused guest tags old why)
+
 -- a lane was closed
 pub record IsShut (lane : ℕ) (before after : List ℕ) (old new : Served) : Type 0 where
   pub there : lane < old.setup.lanes
@@ -155,6 +170,7 @@ pub record IsShut (lane : ℕ) (before after : List ℕ) (old new : Served) : Ty
   pub idle : waits_in old.setup.geometry lane (slice_get new.side.lanes lane) after ≡ false
   pub closed : new.closed ≡ slice_set old.closed lane true
   pub setup : new.setup ≡ old.setup
+  pub spare : new.spare ≡ old.spare
 
 -- or there is none, and nothing has changed
 abbrev pub IsClosed : (lane : ℕ) → (before after : List ℕ) → (old : Served) → (status : ℕ) → (new : Served) → Type 0
@@ -168,9 +184,13 @@ HasNoRings before after old status new = (status ≡ no_such) × (new ≡ old) �
 abbrev pub HasNoLane : (old : Hosted) → (status : ℕ) → (new : Hosted) → Type 0
 HasNoLane old status new = (status ≡ no_such) × (new ≡ old)
 
--- and it says nothing of interrupts
+-- it says nothing of interrupts
+abbrev pub HasNoVector : (before after : ℕ) → (old : Hosted) → (status : ℕ) → (new : Hosted) → Type 0
+HasNoVector before after old status new = (status ≡ no_such) × (new ≡ old) × (after ≡ before)
+
 abbrev pub HasNoVectors : (before after : List ℕ) → (old : Hosted) → (status : ℕ) → (new : Hosted) → Type 0
 HasNoVectors before after old status new = (status ≡ no_such) × (new ≡ old) × (after ≡ before)
 
-abbrev pub HasNoVector : (before after : ℕ) → (old : Hosted) → (status : ℕ) → (new : Hosted) → Type 0
-HasNoVector before after old status new = (status ≡ no_such) × (new ≡ old) × (after ≡ before)
+-- and its guests have no shares
+abbrev pub HasNoShares : (old : Hosted) → (status : ℕ) → (new : Hosted) → Type 0
+HasNoShares old status new = (status ≡ no_such) × (new ≡ old)

@@ -22,7 +22,7 @@ ghost use Rattle.std.specs.Prelude.{◌≡◌, ◌⊎◌, IsSome, MatchOption, N
 ghost use Rattle.nv_c.specs.Calls.{Either, HasNone, IsBlockTold, IsDone, IsError, IsKeptTold, IsLeft, IsLoaded, IsNamedStep, IsNamedTold, IsOpened};
 ghost use Rattle.nv_c.specs.Calls.{IsRead, IsCleared, IsServing, IsStepped, IsWorkTold, Lent, OfGuest, On, no_mediator, no_such};
 ghost use Rattle.nv_c.specs.Names.{NamesNone};
-ghost use Rattle.nv_c.specs.Serving.{IsLoaded as IsLoadedLent, IsNamedStep as IsNamedStepLent, IsNamedTold as IsNamedToldLent, IsRead as IsReadLent};
+ghost use Rattle.nv_c.specs.Serving.{HasNoShares, IsLoaded as IsLoadedLent, IsNamedStep as IsNamedStepLent, IsNamedTold as IsNamedToldLent, IsRead as IsReadLent, IsShareGiven};
 ghost use Rattle.nv_c.specs.Serving.{IsWorkLent, HasNoLane, HasNoRings, HasNoVector, HasNoVectors, IsClosed, IsRaisedTold, IsRingsTold, IsSeenTold, IsServed, IsStepped as IsSteppedLent};
 ghost use Rattle.nv_c.specs.Tables.{setup_of};
 ghost use Rattle.nv_c.specs.Views.{IsShown};
@@ -38,6 +38,7 @@ mod reading;
 mod rings;
 mod serving;
 mod setup;
+mod shares;
 mod showing;
 mod simulated;
 mod status;
@@ -55,13 +56,13 @@ use simulated::Simulated;
 use std::alloc::Global;
 use working::Scope;
 
-/// Version 2.1.
-const VERSION: u32 = 131_073;
+/// Version 2.2.
+const VERSION: u32 = 131_074;
 
 /// The version of the interface: its major number times 65,536, plus its minor number.
 #[unsafe(no_mangle)]
 pub extern "C" fn nvmed_raw_version() -> u32
-    ensures { result ≡ 131073 }
+    ensures { result ≡ 131074 }
 {
     VERSION
 }
@@ -372,6 +373,17 @@ pub extern "C" fn nvmed_raw_seen(
 {
     match event::byte(guest) {
         Some(guest) => interrupts::seen(alloc, handle, guest, vectors),
+        None => status::NO_SUCH,
+    }
+}
+
+/// Gives a guest a share of each lane's tags.
+#[unsafe(no_mangle)]
+pub extern "C" fn nvmed_raw_share(alloc: Global, handle: &mut Nvmed, guest: u32, tags: u32) -> u32
+    ensures { OfGuest guest (Either HasNoShares (IsShareGiven guest tags)) handle.old.hosted result handle.new.hosted }
+{
+    match event::byte(guest) {
+        Some(guest) => shares::give(alloc, handle, guest, tags),
         None => status::NO_SUCH,
     }
 }

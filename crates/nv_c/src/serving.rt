@@ -3,8 +3,7 @@
 ghost use Rattle.std.specs.Prelude.{◌≡◌, ◌==◌, ◌⊎◌, IfErr, IfOk, MatchResult, OnErr, length};
 ghost use Rattle.nv_c.specs.Calls.{IsError, IsRefused, Lent, no_memory, status_of};
 ghost use Rattle.nv_c.specs.Serving.{IsClosed, IsLoaded, IsRead, IsServed, IsStepped, IsTold, IsWorkLent, hosts_scope, status_of_why};
-ghost use Rattle.nv_host.specs.Served.{AreRingsAlone, IsAtStart, Served};
-ghost use Rattle.nv_world_model.specs.SetUp.{host_refusal_of};
+ghost use Rattle.nv_host.specs.Served.{AreRingsAlone, IsAtStart, Served, serving_refusal_of};
 
 use crate::acting::dword_of;
 use crate::held::Held;
@@ -27,7 +26,7 @@ fn fits(mediator: &HostMediator, memory: &[u8]) -> bool
 pub(crate) fn open(alloc: Global, setup: Setup, memory: &mut [u8]) -> Result<Box<Held>, u32>
     requires { length memory.old ≡ setup.host_bytes }
     ensures ok { IfOk result (λ held. (h : Served) × (held.value ≡ Held.Serving h) × IsAtStart setup h memory.new) }
-    ensures err { IfErr result (λ answer. IsRefused host_refusal_of setup answer) }
+    ensures err { IfErr result (λ answer. IsRefused serving_refusal_of setup answer) }
     ensures rings { IfOk result (λ _. AreRingsAlone setup memory.old memory.new) }
     ensures left { IfErr result (λ answer. (answer ≡ no_memory) × AreRingsAlone setup memory.old memory.new ⊎ (memory.new ≡ memory.old)) }
 {
@@ -45,7 +44,7 @@ pub(crate) fn open(alloc: Global, setup: Setup, memory: &mut [u8]) -> Result<Box
 fn made(alloc: Global, setup: Setup, memory: &mut [u8]) -> Result<HostMediator, u32>
     requires { length memory.old ≡ setup.host_bytes }
     ensures ok { IfOk result (λ mediator. IsAtStart setup mediator memory.new) }
-    ensures err { IfErr result (λ answer. IsRefused host_refusal_of setup answer) }
+    ensures err { IfErr result (λ answer. IsRefused serving_refusal_of setup answer) }
     ensures rings { IfOk result (λ _. AreRingsAlone setup memory.old memory.new) }
     ensures left { OnErr result (memory.new ≡ memory.old) }
 {

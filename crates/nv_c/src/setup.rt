@@ -2,8 +2,9 @@
 
 ghost use Rattle.std.specs.Prelude.{◌≡◌, IfErr, IfOk};
 ghost use Rattle.nv_c.specs.Calls.{IsGuestRefused, IsRefused};
-ghost use Rattle.nv_world_model.specs.SetUp.{host_refusal_of, refusal_of};
+ghost use Rattle.nv_world_model.specs.SetUp.{refusal_of};
 ghost use Rattle.nv_c.specs.Tables.{extents_of, given, regions_of, setup_of};
+ghost use Rattle.nv_host.specs.Served.{serving_refusal_of};
 
 use crate::status;
 use nv_mediator::{Extent as OneExtent, GuestSetup, Setup};
@@ -64,7 +65,7 @@ pub(crate) fn setup_of(
 ) -> Result<Setup, u32>
     ensures ok { IfOk result (λ setup. setup ≡ setup_of sizes.now limits.now regions.now extents.now) }
     ensures err { IfErr result (λ answer. IsRefused refusal_of (setup_of sizes.now limits.now regions.now extents.now) answer) }
-    ensures host { IfErr result (λ answer. IsRefused host_refusal_of (setup_of sizes.now limits.now regions.now extents.now) answer) }
+    ensures host { IfErr result (λ answer. IsRefused serving_refusal_of (setup_of sizes.now limits.now regions.now extents.now) answer) }
 {
     if limits.len() > MOST_GUESTS {
         return Err(status::TOO_MANY_GUESTS);

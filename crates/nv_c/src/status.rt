@@ -30,7 +30,7 @@ const RANGES_MEET: u32 = 10;
 /// Two guests' memories meet in the host, or one of them and the mediator's area.
 const MAPS_MEET: u32 = 11;
 /// A size is beyond its limits.
-const BAD_SIZE: u32 = 12;
+pub(crate) const BAD_SIZE: u32 = 12;
 /// Addresses or length of a region are no multiple of 4,096, or it is empty.
 const UNALIGNED: u32 = 13;
 /// Two regions of a guest have an address in common.

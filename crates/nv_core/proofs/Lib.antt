@@ -26,6 +26,7 @@ pub mod Posts
 pub mod TagLists
 pub mod LaneTags
 pub mod MarkedTags
+pub mod HeldTags
 pub mod Claims
 pub mod FlyingTags
 pub mod EndingTags

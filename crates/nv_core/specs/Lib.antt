@@ -3,6 +3,7 @@ pub mod State
 pub mod Front
 pub mod Kept
 pub mod Noted
+pub mod Held
 pub mod Reaping
 pub mod Tags
 pub mod Groups

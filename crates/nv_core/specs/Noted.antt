@@ -1,5 +1,5 @@
 -- Which guests something may be due of, noted with a bit for each (profile).
-use Rattle.std.specs.Prelude.{◌≡◌, ℕ, ◌<◌, ◌==◌, Bool, true, false, if◌then◌else◌, List, slice_get, Some, None}
+use Rattle.std.specs.Prelude.{◌≡◌, ℕ, ◌<◌, ◌==◌, Bool, true, false, if◌then◌else◌, List, slice_get, Option, Some, None, is_some}
 use Rattle.std.specs.Int.{bit_at}
 use Rattle.nv_admin.specs.Event.{is_stepped}
 use Rattle.nv_core.specs.Front.{Side}
@@ -17,9 +17,10 @@ pub record IsQuiet (c : Controller) : Type 0 where
 abbrev pub Rests : (guest : ℕ) → Side → Type 0
 Rests guest side = (c : Controller) → slice_get side.controllers guest ≡ Some c → IsQuiet c
 
--- and no command of one of them may be taken
-abbrev pub NoneWaits : (guest queue : ℕ) → Side → Type 0
-NoneWaits guest queue side = (c : Controller) → slice_get side.controllers guest ≡ Some c → front c queue ≡ None
+-- whether a command of a controller's queue may be taken, where enough tags are free; none where there is no such controller
+abbrev pub has_front : (queue : ℕ) → Option Controller → Bool
+has_front queue None = false
+has_front queue (Some c) = is_some (front c queue)
 
 -- a guest is noted, or not any more
 abbrev pub IsNoted : (before guest now : ℕ) → Type 0
@@ -29,6 +30,6 @@ abbrev pub IsSettled : (before guest now : ℕ) → Type 0
 IsSettled before guest now = (g : ℕ) → g < most_guests → bit_at now g ≡ (if g == guest then 0 else bit_at before g)
 
 -- nothing is due of a guest that is not noted
-abbrev pub AreNoted : List Controller → (rung : ℕ) → Type 0
-AreNoted cs rung =
-    (guest : ℕ) (c : Controller) → guest < most_guests → slice_get cs guest ≡ Some c → bit_at rung guest ≡ 0 → IsQuiet c
+abbrev pub AreNoted : List Controller → (notes : ℕ) → Type 0
+AreNoted cs notes =
+    (guest : ℕ) (c : Controller) → guest < most_guests → slice_get cs guest ≡ Some c → bit_at notes guest ≡ 0 → IsQuiet c

@@ -2,11 +2,13 @@
 
 ghost use Rattle.std.specs.Prelude.{◌≡◌, ◌<◌, ◌∷◌, ◌++◌, [], All, List, ℕ, None, OnErr, OnOk, Some, is_some, option_map, slice_get, true, vec_len};
 ghost use Rattle.nv_core.specs.Groups.{tags_changed};
+ghost use Rattle.nv_core.specs.Held.{held_in};
 ghost use Rattle.nv_core.specs.Tags.{IsReading, command_at, ended_in, is_flying, state_in, taken_in, unended, unled, untaken};
 ghost use Rattle.nv_core.specs.declared.progress.Progress.TheVariants as progress;
 ghost use Rattle.nv_model.specs.Transcript.{ReadDone as Read};
 ghost use Rattle.nv_tags.specs.Tags.{command_of, set_each};
 ghost use Rattle.nv_tags.specs.declared.state.TagState.TheVariants as state;
+ghost use Rattle.nv_world_model.specs.SetUp.{most_guests};
 ghost use Rattle.nv_world_model.specs.World.{Command, Taken, claimed, lowest, tag_changed};
 
 use crate::progress::{Progress, keep};
@@ -114,6 +116,16 @@ impl Lane {
         // With a field comes what is kept of the lane.
         let _known = &self.head;
         self.tags.ended()
+    }
+
+    /// How many tags the commands of a guest have.
+    pub(crate) fn held_by(&self, guest: u8) -> u8
+        requires { guest < most_guests }
+        ensures { result ≡ held_in guest (Some self.now) }
+    {
+        // With a field comes what is kept of the lane.
+        let _known = &self.head;
+        self.tags.held(guest)
     }
 
     /// Whether so many tags are free.

@@ -1,9 +1,11 @@
-//! The tags of a lane whose commands are at one point.
+//! The tags of a lane: those whose commands are at one point, and how many a guest has.
 
-ghost use Rattle.std.specs.Prelude.{◌≡◌, [], false, slice_get};
+ghost use Rattle.std.specs.Prelude.{◌≡◌, ◌<◌, ◌||◌, length, nat_lt, slice_get};
+ghost use Rattle.nv_core.specs.Held.{held_in};
 ghost use Rattle.nv_core.specs.Kept.{IsLent};
 ghost use Rattle.nv_core.specs.Reaping.{waits_in};
 ghost use Rattle.nv_core.specs.Tags.{ended_in, taken_in};
+ghost use Rattle.nv_world_model.specs.SetUp.{most_guests};
 
 use crate::front::Front;
 use crate::layout::Layout;
@@ -23,12 +25,12 @@ impl Front {
         self.lanes[at].taken()
     }
 
-    /// Whether something may be due of a lane: a completion of the physical controller waits, or some part has ended.
+    /// Whether something may be due of a lane: some part has ended, or a completion of the physical controller waits.
     #[inline(always)]
     pub fn has_news<C: MemoryCell>(&self, layout: &Layout, lane: u8, host: &[C]) -> bool
         requires { IsLent layout.now self.now (C.bytes host.now) }
-        ensures waits { result ≡ false → waits_in layout.now lane (slice_get self.now.lanes lane) (C.bytes host.now) ≡ false }
-        ensures ended { result ≡ false → ended_in (slice_get self.now.lanes lane) ≡ [] }
+        ensures { result ≡ (nat_lt 0 (length (ended_in (slice_get self.now.lanes lane)))
+            || waits_in layout.now lane (slice_get self.now.lanes lane) (C.bytes host.now)) }
     {
         let mut ended = self.ended(lane);
         if ended.pop().is_some() {
@@ -47,5 +49,18 @@ impl Front {
             return Group::none();
         }
         self.lanes[at].ended_parts()
+    }
+
+    /// How many tags of a lane the commands of a guest, 0 to 15, have; none where there is no such lane.
+    #[inline(always)]
+    pub fn held_by(&self, lane: u8, guest: u8) -> u8
+        requires { guest < most_guests }
+        ensures { result ≡ held_in guest (slice_get self.now.lanes lane) }
+    {
+        let at = usize::from(lane);
+        if at >= self.lanes.len() {
+            return 0;
+        }
+        self.lanes[at].held_by(guest)
     }
 }

@@ -3,9 +3,9 @@
 //! A guest is noted whenever its controller may have changed, and not any more once nothing is due of its queues whatever is in memory. So whoever looks for
 //! what is due passes by the guests that are not noted.
 
-ghost use Rattle.std.specs.Prelude.{◌≡◌, ◌<◌, ◌==◌, ℕ, IsTrue, false};
+ghost use Rattle.std.specs.Prelude.{◌≡◌, ◌<◌, ◌==◌, ℕ, IsTrue, false, slice_get};
 ghost use Rattle.std.specs.List.{list_any};
-ghost use Rattle.nv_core.specs.Noted.{IsNoted, IsQuiet, IsSettled, NoneWaits, Rests};
+ghost use Rattle.nv_core.specs.Noted.{IsNoted, IsQuiet, IsSettled, Rests, has_front};
 ghost use Rattle.nv_world_model.specs.SetUp.{most_guests};
 
 use crate::front::Front;
@@ -29,9 +29,9 @@ impl Front {
         Group::of(u64::from(self.noted))
     }
 
-    /// Whether a command of a guest's queue may be taken, where enough tags are free. Where not, none may, whatever is in memory.
+    /// Whether a command of a guest's queue may be taken, where enough tags are free and whatever is in memory.
     pub fn waits(&self, guest: u8, queue: u16) -> bool
-        ensures { result ≡ false → NoneWaits guest queue self.now }
+        ensures { result ≡ has_front queue (slice_get self.now.controllers guest) }
     {
         let number = usize::from(guest);
         if number >= self.controllers.len() {

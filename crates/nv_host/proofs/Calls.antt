@@ -32,7 +32,7 @@ use Rattle.nv_world_model.specs.declared.event.Event.{Event}
 
 -- the same set-up with another side
 abbrev pub serving : Served → Side → Served
-serving h new = record { setup = h.setup; side = new; closed = h.closed }
+serving h new = record { setup = h.setup; side = new; closed = h.closed; spare = h.spare }
 
 -- ---- what calls need
 
@@ -112,6 +112,7 @@ module _ (h : Served) (is : IsServed h) (e : Event) (mine : IsMediators e) (new 
         next = record {
           setup = refl;
           closed = refl;
+          spare = refl;
           logs = (λ first log z leads.
               let on = comes-beside h.setup.geometry e h.side new before after r z (made z leads.beside) many leads.beside in
               (on.reply, call-reached h.setup first e h.side new before after r log z mine leads on));
@@ -138,6 +139,7 @@ module _ (h : Served) (is : IsServed h) (e : Event) (mine : IsMediators e) (new 
           sound = is.sound;
           lanes = sym lent-after.kept.many ∙ many ∙ is.kept.many ∙ is.lanes;
           closed = is.closed;
+          shares = is.shares;
           kept = lent-after.kept;
           counted = (λ memory w on. still-counted h.setup.geometry (with_side new after mine_own) w on.lanes on.controllers counted-own);
         }

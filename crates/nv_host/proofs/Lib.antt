@@ -13,6 +13,7 @@ pub mod Readings
 pub mod Reaps
 pub mod Rests
 pub mod Ring
+pub mod Room
 pub mod Rounds
 pub mod Searches
 pub mod Marked
@@ -21,4 +22,5 @@ pub mod Runs
 pub mod Starts
 pub mod Cleared
 pub mod TakenAll
+pub mod Unshared
 pub mod Works

@@ -1,7 +1,7 @@
 -- Tags that are not among those at a point: none of their commands waits for its plan, or has ended.
-use Rattle.std.proofs.Common.{◌≡◌, refl, sym, ap, ◌∙◌, ℕ, zero, suc, ◌+◌, ◌||◌, ◌==◌, cond, Bool, true, false, List, [], ◌∷◌, map, slice_get, Option, None, Some, arith}
+use Rattle.std.proofs.Common.{◌≡◌, refl, sym, ap, ◌∙◌, ℕ, zero, suc, ◌+◌, ◌||◌, ◌==◌, nat_lt, cond, Bool, true, false, List, [], ◌∷◌, length, map, slice_get, Option, None, Some, arith}
 use Rattle.std.specs.List.{enumerate_from, filter}
-use Rattle.std.proofs.lemmas.Bool.{eq-eqb}
+use Rattle.std.proofs.lemmas.Bool.{eq-eqb, lt-ltb}
 use Rattle.std.proofs.lemmas.Option.{none-some}
 use Rattle.nv_core.specs.Front.{Side}
 use Rattle.nv_core.specs.Jobs.{holder_in, job_in}
@@ -134,6 +134,12 @@ module _ (s : Scene) (lane tag : ℕ) where
       by_lane : (o : Option Lane) (command : Command) (st : StatusField) (share : Option Share) → is_among (ended_in o) tag ≡ false → tag_in o tag ≡ Some (Ended command st share) → ⊥
       by_lane None command st share out at = none-some (Ended command st share) at
       by_lane (Some l) command st share out at = out-fails is_ended l.tags tag (Ended command st share) out at refl
+
+-- what has no news has neither
+pub no-part : (ended : List ℕ) (waits : Bool) → (nat_lt 0 (length ended) || waits) ≡ false → (waits ≡ false) × (ended ≡ [])
+no-part [] waits none = (none, refl)
+no-part (tag ∷ tags) waits none =
+    absurd (true-false (nat_lt 0 (length (tag ∷ tags)) || waits) (ap (λ (b : Bool). b || waits) (lt-ltb 0 (length (tag ∷ tags)) (omega arith))) none)
 
 -- a lane where no completion waits, and no part has ended
 pub no-news : (s : Scene) (lane : ℕ) → waits_in s.served.setup.geometry lane (slice_get s.served.side.lanes lane) s.memory ≡ false

@@ -1,7 +1,7 @@
 -- Of a guest's queues nothing is due, by what the front notes.
-use Rattle.std.proofs.Common.{◌≡◌, refl, sym, ap, ◌∙◌, ℕ, cond, Bool, true, false, slice_get, Option, None, Some}
+use Rattle.std.proofs.Common.{◌≡◌, refl, sym, ap, ◌∙◌, ℕ, cond, Bool, true, false, slice_get, Option, None, Some, is_some}
 use Rattle.nv_admin.specs.Event.{is_stepped}
-use Rattle.nv_core.specs.Noted.{IsQuiet, NoneWaits, Rests}
+use Rattle.nv_core.specs.Noted.{IsQuiet, Rests, has_front}
 use Rattle.nv_host.proofs.Rests.{not-there, placed}
 use Rattle.nv_host.specs.Passes.{QueuesRest}
 use Rattle.nv_host.specs.Work.{NotDue, Scene}
@@ -75,8 +75,13 @@ module _ (s : Scene) (guest : ℕ) where
       }
 
   -- a queue from which nothing may be taken
-  pub none-takes : (queue : ℕ) → NoneWaits guest queue s.served.side → (lane : ℕ) → NotDue s (event.Take guest queue lane)
+  pub none-takes : (queue : ℕ) → has_front queue (slice_get s.served.side.controllers guest) ≡ false → (lane : ℕ) → NotDue s (event.Take guest queue lane)
   none-takes queue none lane w on is =
       not-there s w (event.Take guest queue lane) tt on
       (take-quiet s.served.setup.geometry (placed s w) guest queue lane
-      (λ c at io. none c (sym (ap (λ cs. slice_get cs guest) on.controllers) ∙ at))) is.1
+      (λ c at io. no-front (front c queue)
+      (sym (ap (has_front queue) (sym (ap (λ cs. slice_get cs guest) on.controllers) ∙ at)) ∙ none))) is.1
+    where
+      no-front : (o : Option ℕ) → is_some o ≡ false → o ≡ None
+      no-front None isnt = refl
+      no-front (Some addr) isnt = cc

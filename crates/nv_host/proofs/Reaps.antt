@@ -49,6 +49,7 @@ module _ (h : Served) (is : IsServed h) (lane : ℕ) (new : Side) (memory : List
         sound = is.sound;
         lanes = sym lent-after.kept.many ∙ ap (λ (ts : List ℕ). length ts) tails ∙ is.kept.many ∙ is.lanes;
         closed = is.closed;
+        shares = is.shares;
         kept = lent-after.kept;
         counted = (λ at w on. still-counted h.setup.geometry (with_side new memory own) w on.lanes on.controllers counted-own);
       }
@@ -80,6 +81,7 @@ module _ {E : Type 0} (h o : Served) (view : h ≡ o) (is : IsServed h) (lane : 
       (record {
         setup = refl;
         closed = refl;
+        spare = refl;
         logs = (λ first log z leads.
             let on = made z leads.beside (leads-live h.setup is.accepted is.sound first h.side memory log z leads) in
             (on.reply, call-reached h.setup first (event.Reap lane) h.side new memory memory r log z tt leads on));

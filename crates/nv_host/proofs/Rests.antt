@@ -12,8 +12,8 @@ use Rattle.nv_core.specs.Submit.{IsOfTag}
 use Rattle.nv_core.specs.declared.holding.Holder.{Holder}
 use Rattle.nv_core.proofs.Alike.{unplaced-due}
 use Rattle.nv_host.specs.Passes.{IsOwn, NonePosts, NoneWaits, NoneWaitsAt, QueuesRest}
-use Rattle.nv_host.specs.Served.{IsAccepted, is_offered}
-use Rattle.nv_host.specs.Work.{IsIn, NotDue, Rests, Scene, Waits}
+use Rattle.nv_host.specs.Served.{IsAccepted}
+use Rattle.nv_host.specs.Work.{IsIn, NotDue, Rests, Scene, Waits, is_allowed}
 use Rattle.nv_host.specs.declared.worked.Scope.TheVariants as scope
 use Rattle.nv_laws_sound.proofs.Lists.{some-same}
 use Rattle.nv_laws_sound.specs.Mediators.{IsMediators}
@@ -102,7 +102,7 @@ abbrev pub placed : Scene → World → World
 placed s w = record w { lanes = s.served.side.lanes }
 
 -- what is due in it is due there
-placed-due : (s : Scene) (w : World) (e : Event) → IsMediators e → IsBeside s.served.side s.memory w
+pub placed-due : (s : Scene) (w : World) (e : Event) → IsMediators e → IsBeside s.served.side s.memory w
     → due s.served.setup.geometry e w ≡ due s.served.setup.geometry e (placed s w)
 placed-due s w e mine on =
     unplaced-due s.served.setup.geometry e mine w (placed s w)
@@ -119,19 +119,19 @@ no-owner s w guest none = ap (λ (x : Option Guest). owner_by guest x (slice_get
 
 -- what the code was told
 pub not-told : (s : Scene) (e : Event) (b : Bool) → b ≡ false
-    → ((w : World) → IsBeside s.served.side s.memory w → b ≡ (is_offered s.served e && due s.served.setup.geometry e w))
-    → (w : World) → IsBeside s.served.side s.memory w → is_offered s.served e ≡ true → due s.served.setup.geometry e w ≡ true → ⊥
-not-told s e b isnt told w on offered is =
-    true-false b (told w on ∙ ap (λ (x : Bool). x && due s.served.setup.geometry e w) offered ∙ is) isnt
+    → ((w : World) → IsBeside s.served.side s.memory w → b ≡ (is_allowed s.served e && due s.served.setup.geometry e w))
+    → (w : World) → IsBeside s.served.side s.memory w → is_allowed s.served e ≡ true → due s.served.setup.geometry e w ≡ true → ⊥
+not-told s e b isnt told w on allowed is =
+    true-false b (told w on ∙ ap (λ (x : Bool). x && due s.served.setup.geometry e w) allowed ∙ is) isnt
 
-and-both : (a b : Bool) → (a && b) ≡ true → (a ≡ true) × (b ≡ true)
+pub and-both : (a b : Bool) → (a && b) ≡ true → (a ≡ true) × (b ≡ true)
 and-both true b is = (refl, is)
 and-both false b is = absurd (true-false false is refl)
 
 pub told : (s : Scene) (e : Event) (b : Bool) → b ≡ true
-    → ((w : World) → IsBeside s.served.side s.memory w → b ≡ (is_offered s.served e && due s.served.setup.geometry e w))
-    → (w : World) → IsBeside s.served.side s.memory w → (is_offered s.served e ≡ true) × (due s.served.setup.geometry e w ≡ true)
-told s e b so tells w on = and-both (is_offered s.served e) (due s.served.setup.geometry e w) (sym (tells w on) ∙ so)
+    → ((w : World) → IsBeside s.served.side s.memory w → b ≡ (is_allowed s.served e && due s.served.setup.geometry e w))
+    → (w : World) → IsBeside s.served.side s.memory w → (is_allowed s.served e ≡ true) × (due s.served.setup.geometry e w ≡ true)
+told s e b so tells w on = and-both (is_allowed s.served e) (due s.served.setup.geometry e w) (sym (tells w on) ∙ so)
 
 -- ---- whether a guest is there
 

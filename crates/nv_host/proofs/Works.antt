@@ -108,20 +108,31 @@ made-next : (e : Event) (a : Scene) (r : Reply) (b : Scene) → IsMade e a r b �
 made-next (event.Reap lane) a r b made = made.next
 made-next e a r b made = made.next
 
-leads-closed : (sc : Scope) (es : List Event) (a b : Scene) → AreMade sc es a b → b.served.closed ≡ a.served.closed
-unfolding AreMade
-leads-closed sc [] a b made = ap (λ (x : Scene). x.served.closed) made
-leads-closed sc (e ∷ es) a b made = leads-closed sc es made.2 b made.4 ∙ (made-next e a made.1 made.2 made.3).closed
+-- which lanes were closed, and the guests' shares
+pub record StaysSo (a b : Served) : Type 0 where
+  pub closed : b.closed ≡ a.closed
+  pub spare : b.spare ≡ a.spare
 
-pub ended-closed : (sc : Scope) (most done : ℕ) (enough : Type 0) (y : Why) (a b : Scene) → HasEnded sc most done enough y a b
-    → b.served.closed ≡ a.served.closed
-ended-closed sc most done enough why.Enough a b ended = leads-closed sc ended.0.events a b ended.0.made
-ended-closed sc most done enough why.Starved a b ended = leads-closed sc ended.0.events a b ended.0.made
-ended-closed sc most done enough why.GaveUp a b ended =
+stays-next : (e : Event) (a : Scene) (r : Reply) (b : Scene) (z : Served) → IsMade e a r b → StaysSo b.served z → StaysSo a.served z
+stays-next e a r b z made then =
+    let next = made-next e a r b made in
+    record { closed = then.closed ∙ next.closed; spare = then.spare ∙ next.spare }
+
+leads-stays : (sc : Scope) (es : List Event) (a b : Scene) → AreMade sc es a b → StaysSo a.served b.served
+unfolding AreMade
+leads-stays sc [] a b made = record { closed = ap (λ (x : Scene). x.served.closed) made; spare = ap (λ (x : Scene). x.served.spare) made }
+leads-stays sc (e ∷ es) a b made = stays-next e a made.1 made.2 b.served made.3 (leads-stays sc es made.2 b made.4)
+
+pub ended-stays : (sc : Scope) (most done : ℕ) (enough : Type 0) (y : Why) (a b : Scene) → HasEnded sc most done enough y a b
+    → StaysSo a.served b.served
+ended-stays sc most done enough why.Enough a b ended = leads-stays sc ended.0.events a b ended.0.made
+ended-stays sc most done enough why.Starved a b ended = leads-stays sc ended.0.events a b ended.0.made
+ended-stays sc most done enough why.GaveUp a b ended =
     let up = ended.0 in
-    (made-next (event.GiveUp up.lane up.tag) up.before up.reply b up.made).closed
-    ∙ leads-closed sc up.leads.events a up.before up.leads.made
-ended-closed sc most done enough (why.Stray lane) a b ended = leads-closed sc ended.0.events a b ended.0.made
+    let before = leads-stays sc up.leads.events a up.before up.leads.made in
+    let next = made-next (event.GiveUp up.lane up.tag) up.before up.reply b up.made in
+    record { closed = next.closed ∙ before.closed; spare = next.spare ∙ before.spare }
+ended-stays sc most done enough (why.Stray lane) a b ended = leads-stays sc ended.0.events a b ended.0.made
 
 -- ---- how a call ends
 

@@ -1,5 +1,7 @@
 pub mod Closing
 pub mod Ending
 pub mod Passes
+pub mod Shares
 pub mod Served
+pub mod Sharing
 pub mod Work

@@ -1,7 +1,9 @@
 -- The mediator of a host that has memory and a drive of its own: what the code holds, which logs lead to it, and what a call comes to (profile).
-use Rattle.std.specs.Prelude.{◌≡◌, ℕ, ◌<◌, ◌≤◌, ◌⊎◌, Bool, true, false, List, [], ◌∷◌, ◌++◌, not, Option, length, replicate, slice_get, Some, None}
+use Rattle.std.specs.Prelude.{◌≡◌, ℕ, ◌<◌, ◌≤◌, ◌⊎◌, Bool, true, false, if◌then◌else◌, List, [], ◌∷◌, ◌++◌, nat_lt, not, Option, length, replicate, slice_get, Some, None}
 use Rattle.nv_core.specs.Front.{IsBeside, IsSideOf, IsStepBeside, Side, opening_side}
+use Rattle.nv_core.specs.Held.{held_in}
 use Rattle.nv_core.specs.Kept.{IsKept}
+use Rattle.nv_host.specs.Shares.{AreShares, is_within, needed_in_all, opening_spare}
 use Rattle.nv_laws_front.specs.Reached.{IsReached}
 use Rattle.nv_laws_sound.specs.Counted.{IsCounted}
 use Rattle.nv_mediator.specs.Refused.{refused}
@@ -9,10 +11,10 @@ use Rattle.nv_mediator.specs.declared.refusal.Refusal.{Refusal as Named}
 use Rattle.nv_mem.specs.GuestMap.{IsSound}
 use Rattle.nv_model.specs.Memory.{byte_in}
 use Rattle.nv_model.specs.declared.reply.Reply.{Reply}
-use Rattle.nv_world_model.specs.Area.{completion_slot, ring_size}
+use Rattle.nv_world_model.specs.Area.{completion_slot, ring_size, tag_count}
 use Rattle.nv_world_model.specs.Geometry.{Geometry, Guest}
 use Rattle.nv_world_model.specs.Headline.{Headline}
-use Rattle.nv_world_model.specs.SetUp.{SetUp, host_refusal_of}
+use Rattle.nv_world_model.specs.SetUp.{BadSize, Refusal, SetUp, host_refusal_of}
 use Rattle.nv_world_model.specs.Step.{is_telling, step}
 use Rattle.nv_world_model.specs.World.{World, opening_world}
 use Rattle.nv_world_model.specs.declared.event.Event.{Event}
@@ -21,11 +23,13 @@ use Rattle.nv_world_model.specs.declared.logged.Logged.{Logged}
 
 -- ---- what it is
 
--- what it was made of, the mediator's side of the world, and of each lane whether it was closed
+-- what it was made of, the mediator's side of the world, of each lane whether it was closed, and of each guest how many tags of a lane it may have
+-- while one more command is taken for it there
 pub record Served : Type 0 where
   pub setup : SetUp
   pub side : Side
   pub closed : List Bool
+  pub spare : List ℕ
 
 -- whether a lane is there and was closed
 abbrev pub is_set : Option Bool → Bool
@@ -41,9 +45,17 @@ is_closed h lane = is_set (slice_get h.closed lane)
 abbrev pub IsAccepted : SetUp → Type 0
 IsAccepted s = host_refusal_of s ≡ None
 
--- the first reason for which one is, by the name that the code gives it
+-- and the commands of its guests may together need no more tags than a lane has, one of each guest
+abbrev pub unless_crowded : List Guest → Option Refusal → Option Refusal
+unless_crowded guests None = if nat_lt tag_count (needed_in_all guests) then Some BadSize else None
+unless_crowded guests (Some r) = Some r
+
+abbrev pub serving_refusal_of : SetUp → Option Refusal
+serving_refusal_of s = unless_crowded s.geometry.guests (host_refusal_of s)
+
+-- the first reason for which it is refused, by the name that the code gives it
 abbrev pub first_refusal : SetUp → Option Named
-first_refusal s = refused (host_refusal_of s)
+first_refusal s = refused (serving_refusal_of s)
 
 -- ---- logs
 
@@ -57,6 +69,7 @@ LeadsTo h first memory log z = IsReached h.setup first h.side memory log z
 pub record IsNext (e : Event) (old : Served) (before : List ℕ) (r : Reply) (new : Served) (after : List ℕ) : Type 0 where
   pub setup : new.setup ≡ old.setup
   pub closed : new.closed ≡ old.closed
+  pub spare : new.spare ≡ old.spare
   pub logs : (first : World) (log : List Logged) (z : World) → LeadsTo old first before log z
       → ((step old.setup.geometry e z).reply ≡ r)
       × LeadsTo new first after (log ++ record { event = e; reply = r } ∷ []) (step old.setup.geometry e z).world
@@ -68,14 +81,22 @@ pub record IsDone (e : Event) (old : Served) (before : List ℕ) (r : Reply) (ne
   pub worlds : (w : World) → IsBeside old.side before w → IsStepBeside old.setup.geometry e w r new.side after
   pub dull : is_telling r ≡ false → (new ≡ old) × (after ≡ before)
 
--- the mediator of a set-up as it is made: no lane is closed
+-- the mediator of a set-up as it is made: no lane is closed, and guests have equal shares
 abbrev pub opened : SetUp → Served
-opened s = record { setup = s; side = opening_side s.geometry s.lanes; closed = replicate s.lanes false }
+opened s =
+    record {
+      setup = s;
+      side = opening_side s.geometry s.lanes;
+      closed = replicate s.lanes false;
+      spare = opening_spare s.geometry.guests;
+    }
 
--- at the start of a set-up no lane is closed, and the log without events leads there from the world with this memory, whatever the drive's disk has
+-- at the start of a set-up no lane is closed, guests have equal shares, and the log without events leads there from the world with this memory, whatever
+-- the drive's disk has
 pub record IsAtStart (s : SetUp) (h : Served) (memory : List ℕ) : Type 0 where
   pub setup : h.setup ≡ s
   pub closed : h.closed ≡ replicate s.lanes false
+  pub spare : h.spare ≡ opening_spare s.geometry.guests
   pub led : (disk : ℕ → ℕ → ℕ) → (let w = opening_world (byte_in memory) disk s.geometry s.lanes in LeadsTo h w memory [] w)
 
 -- a memory has changed in the lanes' completion rings alone
@@ -109,6 +130,7 @@ pub record IsServed (h : Served) : Type 0 where
   pub sound : (number : ℕ) (guest : Guest) → slice_get h.setup.geometry.guests number ≡ Some guest → IsSound guest.memory_map
   pub lanes : length h.side.lanes ≡ h.setup.lanes
   pub closed : length h.closed ≡ h.setup.lanes
+  pub shares : AreShares h.setup.geometry.guests h.spare
   pub kept : IsKept h.setup.geometry h.side
   pub counted : AreCounted h.setup.geometry h.side
 
@@ -134,6 +156,10 @@ is_served (event.Post lane tag) = true
 abbrev pub is_offered : Served → Event → Bool
 is_offered h (event.Take guest queue lane) = not (is_closed h lane)
 is_offered h e = is_served e
+
+-- whether a guest has so few tags of a lane that its share has room for one more command, whatever that may need
+abbrev pub has_share : Served → (guest lane : ℕ) → Bool
+has_share h guest lane = is_within (held_in guest (slice_get h.side.lanes lane)) (slice_get h.spare guest)
 
 -- whether it reads a completion, so that what the drive has done meets in it
 abbrev pub is_reap : Event → Bool

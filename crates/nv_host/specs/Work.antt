@@ -1,9 +1,9 @@
 -- What `HostMediator::work` does: what is due of a scope, event by event, until nothing is or as many were made as were asked for (profile).
-use Rattle.std.specs.Prelude.{◌≡◌, ◌+◌, ◌<◌, ◌≤◌, ℕ, ⊤, true, List, [], ◌∷◌, length, slice_get, IsSome, Option, Some, None, option_map}
+use Rattle.std.specs.Prelude.{◌≡◌, ◌+◌, ◌<◌, ◌≤◌, ◌&&◌, ℕ, ⊤, Bool, true, List, [], ◌∷◌, length, slice_get, IsSome, Option, Some, None, option_map}
 use Rattle.nv_core.specs.Front.{IsBeside, IsReaped}
 use Rattle.nv_core.specs.Jobs.{holder_in, job_in}
 use Rattle.nv_core.specs.Reaping.{answer_of, waits_in}
-use Rattle.nv_host.specs.Served.{IsDone, IsNext, IsUnreached, Served, is_offered}
+use Rattle.nv_host.specs.Served.{IsDone, IsNext, IsUnreached, Served, has_share, is_offered}
 use Rattle.nv_host.specs.declared.worked.Scope.{Scope}
 use Rattle.nv_host.specs.declared.worked.Scope.TheVariants as scope
 use Rattle.nv_host.specs.declared.worked.Why.{Why}
@@ -58,6 +58,11 @@ pub record Waits (s : Scene) (lane tag : ℕ) (job : Job) (given : Guest) : Type
   pub taken : job_in lane tag (tag_in (slice_get s.served.side.lanes lane) tag) ≡ Some job
   pub whose : slice_get s.served.setup.geometry.guests job.guest ≡ Some given
 
+-- whether an event may be made now, and a guest that it takes a command of has room for it in its share of the lane
+abbrev pub is_allowed : Served → Event → Bool
+is_allowed h (event.Take guest queue lane) = is_offered h (event.Take guest queue lane) && has_share h guest lane
+is_allowed h e = is_offered h e
+
 -- an event is due in a world: it is what a command wants that waits for its plan, bytes of its list or to be handed on; or a completion of the drive
 -- waits; or it would be done there, and may be made. No act of a guest's is, no event of the drive's, and no command that is given up
 abbrev pub IsDueIn : Scene → World → Event → Type 0
@@ -66,7 +71,7 @@ IsDueIn s w (event.List lane tag addr len) =
 IsDueIn s w (event.Submit lane tag) =
     (job : Job) × (given : Guest) × (plan : Plan) × Waits s lane tag job given × (outcome_of given job ≡ Settled plan)
 IsDueIn s w (event.Reap lane) = waits_in s.served.setup.geometry lane (slice_get s.served.side.lanes lane) s.memory ≡ true
-IsDueIn s w e = (is_offered s.served e ≡ true) × (due s.served.setup.geometry e w ≡ true)
+IsDueIn s w e = (is_allowed s.served e ≡ true) × (due s.served.setup.geometry e w ≡ true)
 
 -- in each world in which the mediator and the memory may be at all, so in each that a log leads to; and in none of them
 abbrev pub IsDue : Scene → Event → Type 0

@@ -41,6 +41,7 @@ impl HostMediator {
         ensures idle { waits_in self.old.setup.geometry lane (slice_get self.new.side.lanes lane) (C.bytes memory.new) ≡ false }
         ensures closed { self.new.closed ≡ slice_set self.old.closed lane true }
         ensures setup { self.new.setup ≡ self.old.setup }
+        ensures spare { self.new.spare ≡ self.old.spare }
     {
         if lane >= self.lanes {
             return;
@@ -76,6 +77,7 @@ impl HostMediator {
         ensures side { self.new.side ≡ self.old.side }
         ensures closed { self.new.closed ≡ slice_set self.old.closed lane true }
         ensures setup { self.new.setup ≡ self.old.setup }
+        ensures spare { self.new.spare ≡ self.old.spare }
     {
         let _known = &self.front;
         self.closed[usize::from(lane)] = true;

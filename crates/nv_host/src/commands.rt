@@ -153,6 +153,7 @@ impl HostMediator {
         ensures nowhere { OnErr result ((w : World) → IsBeside self.old.side (C.bytes memory.now) w → IsLive self.old.setup.geometry w → ⊥) }
         ensures tails { self.new.side.tails ≡ self.old.side.tails }
         ensures closed { self.new.closed ≡ self.old.closed }
+        ensures spare { self.new.spare ≡ self.old.spare }
         ensures setup { self.new.setup ≡ self.old.setup }
     {
         self.front.reap(&self.layout, lane, memory)

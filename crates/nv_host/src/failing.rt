@@ -33,6 +33,7 @@ impl HostMediator {
         ensures alone { IsLaneAlone lane self.old.side self.new.side }
         ensures setup { self.new.setup ≡ self.old.setup }
         ensures closed { self.new.closed ≡ self.old.closed }
+        ensures spare { self.new.spare ≡ self.old.spare }
     {
         // Each has ended a tag that was in flight, so there are at most 64.
         while self.has_reaped(lane, memory) {}
@@ -48,6 +49,7 @@ impl HostMediator {
         ensures ring { IsRingAlone self.old.setup.geometry lane (C.bytes memory.old) (C.bytes memory.new) }
         ensures setup { self.new.setup ≡ self.old.setup }
         ensures closed { self.new.closed ≡ self.old.closed }
+        ensures spare { self.new.spare ≡ self.old.spare }
     {
         // With a field comes what is kept of the lane.
         let _known = &self.front;
@@ -63,6 +65,7 @@ impl HostMediator {
         ensures alone { IsLaneAlone lane self.old.side self.new.side }
         ensures setup { self.new.setup ≡ self.old.setup }
         ensures closed { self.new.closed ≡ self.old.closed }
+        ensures spare { self.new.spare ≡ self.old.spare }
     {
         // With a field comes what is kept of the lane.
         let _known = &self.front;
@@ -98,6 +101,7 @@ impl HostMediator {
         ensures ring { IsRingAlone self.old.setup.geometry lane (C.bytes memory.old) (C.bytes memory.new) }
         ensures setup { self.new.setup ≡ self.old.setup }
         ensures closed { self.new.closed ≡ self.old.closed }
+        ensures spare { self.new.spare ≡ self.old.spare }
     {
         // With a field comes what is kept of the lane.
         let _known = &self.front;
@@ -117,6 +121,7 @@ impl HostMediator {
         ensures alone { IsLaneAlone lane self.old.side self.new.side }
         ensures setup { self.new.setup ≡ self.old.setup }
         ensures closed { self.new.closed ≡ self.old.closed }
+        ensures spare { self.new.spare ≡ self.old.spare }
     {
         let _told = self.front.give_up(&self.layout, lane, tag);
     }
@@ -132,6 +137,7 @@ impl HostMediator {
         ensures alone { IsLaneAlone lane self.old.side self.new.side }
         ensures setup { self.new.setup ≡ self.old.setup }
         ensures closed { self.new.closed ≡ self.old.closed }
+        ensures spare { self.new.spare ≡ self.old.spare }
     {
         // With a field comes what is kept of the lane.
         let _known = &self.front;

@@ -1,18 +1,22 @@
 //! The mediator of a host, and what is promised of it.
 
-ghost use Rattle.std.specs.Prelude.{◌≡◌, ◌⊎◌, IfErr, IfOk, OnErr, Some, length};
-ghost use Rattle.nv_host.specs.Served.{AreRingsAlone, IsAccepted, IsAtStart, IsPromised, first_refusal, opened};
+ghost use Rattle.std.specs.Prelude.{◌≡◌, ◌+◌, ◌⊎◌, IfErr, IfOk, None, OnErr, Some, length};
+ghost use Rattle.nv_host.specs.Shares.{needed_in_all};
+ghost use Rattle.nv_host.specs.Served.{AreRingsAlone, IsAccepted, IsAtStart, IsPromised, first_refusal, opened, serving_refusal_of};
+ghost use Rattle.nv_world_model.specs.Area.{tag_count};
 
+use crate::shares::tags_left;
 use nv_core::{Front, Layout};
 use nv_mediator::{Refusal, Setup};
 use nv_mem::{MemoryCell, NoMemory};
+use nv_model::limits::TAG_COUNT;
 use std::alloc::Global;
 use std::marker::Model;
 
 /// The mediator between up to 16 guests and a drive, for a host that has the memory and the drive.
 ///
-/// Its type keeps that its set-up was accepted, and what the mediator's side keeps whatever is in memory. Beside that it has a flag for each lane: whether
-/// it was closed.
+/// Its type keeps that its set-up was accepted, and what the mediator's side keeps whatever is in memory. Beside that it has a flag for each lane, whether
+/// it was closed, and each guest's share of a lane's tags.
 #[derive(Drop)]
 pub struct HostMediator {
     pub(crate) layout: Layout,
@@ -20,6 +24,8 @@ pub struct HostMediator {
     pub(crate) lanes: u8,
     pub(crate) front: Front,
     pub(crate) closed: Vec<bool>,
+    // of each guest, how many tags of a lane it may have while one more command is taken for it there
+    pub(crate) spare: Vec<u8>,
 }
 
 impl Model for HostMediator {
@@ -27,9 +33,9 @@ impl Model for HostMediator {
 
     ghost Value = { Served };
 
-    ghost view = { λ m. record { setup = record { host_bytes = m.host_bytes; lanes = m.lanes; geometry = m.layout }; side = m.front; closed = m.closed.items } };
+    ghost view = { λ m. record { setup = record { host_bytes = m.host_bytes; lanes = m.lanes; geometry = m.layout }; side = m.front; closed = m.closed.items; spare = m.spare.items } };
 
-    ghost invariant = { λ m. IsServed (record { setup = record { host_bytes = m.host_bytes; lanes = m.lanes; geometry = m.layout }; side = m.front; closed = m.closed.items }) };
+    ghost invariant = { λ m. IsServed (record { setup = record { host_bytes = m.host_bytes; lanes = m.lanes; geometry = m.layout }; side = m.front; closed = m.closed.items; spare = m.spare.items }) };
 }
 
 impl HostMediator {
@@ -38,7 +44,8 @@ impl HostMediator {
     ///
     /// # Errors
     ///
-    /// The first reason for which the set-up is refused, or that memory was: nothing has changed.
+    /// The first reason for which the set-up is refused, or that memory was: nothing has changed. To the reasons of a host's set-up comes a last one: the
+    /// guests have more than 64 extents together, so that one command of each may need more tags than a lane has ([`Refusal::BadSize`]).
     pub fn new<C: MemoryCell>(
         alloc: Global,
         setup: Setup,
@@ -46,38 +53,45 @@ impl HostMediator {
     ) -> Result<Self, Refusal>
         requires { length (C.bytes memory.old) ≡ setup.host_bytes }
         ensures ok { IfOk result (λ mediator. IsAtStart setup mediator (C.bytes memory.new)) }
-        ensures accepted { IfOk result (λ _. IsAccepted setup) }
+        ensures accepted { IfOk result (λ _. serving_refusal_of setup ≡ None) }
         ensures rings { IfOk result (λ _. AreRingsAlone setup (C.bytes memory.old) (C.bytes memory.new)) }
         ensures len { length (C.bytes memory.new) ≡ length (C.bytes memory.old) }
         ensures same { OnErr result (C.bytes memory.new ≡ C.bytes memory.old) }
-        ensures err { IfErr result (λ refusal. (first_refusal setup ≡ Some refusal) ⊎ ((refusal ≡ Refusal.NoMemory) × IsAccepted setup)) }
+        ensures err { IfErr result (λ refusal. (first_refusal setup ≡ Some refusal) ⊎ ((refusal ≡ Refusal.NoMemory) × (serving_refusal_of setup ≡ None))) }
     {
         if let Some(refusal) = setup.host_refusal() {
             return Err(refusal);
         }
-        let Ok(mediator) = Self::open(alloc, setup) else {
+        let Some(left) = tags_left(TAG_COUNT, &setup.guests) else {
+            return Err(Refusal::BadSize);
+        };
+        let Ok(mediator) = Self::open(alloc, setup, left) else {
             return Err(Refusal::NoMemory);
         };
         mediator.clear_rings(memory);
         Ok(mediator)
     }
 
-    // The mediator of a set-up that is not refused.
-    fn open(alloc: Global, setup: Setup) -> Result<Self, NoMemory>
-        requires { IsAccepted setup }
+    // The mediator of a set-up that is not refused, where so many tags of a lane are left once each guest has what one command of it may need.
+    fn open(alloc: Global, setup: Setup, left: usize) -> Result<Self, NoMemory>
+        requires accepted { IsAccepted setup }
+        requires left { left + needed_in_all setup.geometry.guests ≡ tag_count }
         ensures { IfOk result (λ mediator. mediator ≡ opened setup) }
     {
         let host_bytes = setup.host_bytes;
         let lanes = setup.lanes as u8;
+        let guests = setup.guests.len();
         let layout = setup.into_layout(alloc)?;
         let front = Front::new(alloc, &layout, lanes)?;
         let closed = vec![in alloc; false; usize::from(lanes)]?;
+        let spare = vec![in alloc; (left / guests.max(1)) as u8; guests]?;
         Ok(HostMediator {
             layout,
             host_bytes,
             lanes,
             front,
             closed,
+            spare,
         })
     }
 

@@ -190,7 +190,7 @@ impl HostMediator {
         done
     }
 
-    // Takes a command of a queue of the guest's for a lane where one may be taken; whether one was.
+    // Takes a command of a queue of the guest's for a lane where one may be taken, and the guest's share has room for it; whether one was.
     fn has_taken<C: MemoryCell>(
         &mut self,
         alloc: Global,
@@ -204,6 +204,9 @@ impl HostMediator {
         ensures no { result ≡ false → (self.new ≡ self.old) × NotDue (scene self.old (C.bytes memory.now)) (Event.Take guest queue lane) }
         ensures setup { self.new.setup ≡ self.old.setup }
     {
+        if !self.has_share(guest, lane) {
+            return false;
+        }
         if self.due(&Event::Take(guest, queue, lane), memory) {
             return match self.take(alloc, guest, queue, lane, memory) {
                 Ok(_reply) => true,

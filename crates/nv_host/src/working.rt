@@ -30,6 +30,10 @@ impl HostMediator {
     /// A round costs what its events cost, and a look at each lane. Tags are looked at where their commands wait or have ended, and guests where a note says that
     /// something may be due of their queues; the note is made when the guest's controller changes.
     ///
+    /// A guest has at most its share of a lane's tags: its next command is taken for a lane only where it has so few there that the command may need whatever
+    /// it can ([`HostMediator::set_share`]). All shares together are no more than a lane has, so whatever others do, a guest whose share has room has its
+    /// commands taken.
+    ///
     /// A completion that names no command ends the call ([`Why::Stray`]): the host stops the drive, and closes the lane by [`HostMediator::close`].
     /// Nothing is taken for a lane that was closed. The host then writes its doorbells, from [`HostMediator::tail`] and [`HostMediator::head`].
     ///
@@ -45,6 +49,7 @@ impl HostMediator {
         ensures worked { IsWorked scope most result (scene self.old (C.bytes memory.old)) (scene self.new (C.bytes memory.new)) }
         ensures setup { self.new.setup ≡ self.old.setup }
         ensures closed { self.new.closed ≡ self.old.closed }
+        ensures spare { self.new.spare ≡ self.old.spare }
         ensures len { length (C.bytes memory.new) ≡ length (C.bytes memory.old) }
     {
         let mut done: u64 = 0;

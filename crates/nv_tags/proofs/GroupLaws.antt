@@ -1,6 +1,6 @@
 -- What groups of tags come to
 use Rattle.std.proofs.Common.{◌≡◌, ℕ, zero, suc, ◌+◌, ◌<◌, ◌≤◌, ◌==◌, ◌||◌, cond, Bool, true, false, inl, inr, List, [], ◌∷◌, Some}
-use Rattle.std.proofs.Common.{length, slice_index_or, take, arith, refl, sym, ap, ◌∙◌}
+use Rattle.std.proofs.Common.{length, take, arith, refl, sym, ap, ◌∙◌}
 use Rattle.std.specs.List.{Contains, range_with_len}
 use Rattle.std.proofs.lemmas.Bool.{cases_lt, eq-eqb, eqb-true}
 use Rattle.std.proofs.lemmas.List.{length-take-le}
@@ -8,7 +8,7 @@ use Rattle.std.proofs.lemmas.List.Elements.{All-contains, All-take, filter_passe
 use Rattle.nv_world_model.specs.World.{Command}
 use Rattle.nv_tags.specs.Laws.{AreLed}
 use Rattle.nv_tags.specs.Tags.{Free, Slot, Taken, Used, claimed, free_slots, goes_by, group, is_free, leader_in, slot_at, tags_where, taken_by}
-use Rattle.nv_tags.proofs.Groups.{length-set_each, read-set_each}
+use Rattle.nv_tags.proofs.Groups.{length-set_each, slot_at-set_each}
 use Rattle.nv_tags.proofs.Rows.{holding, holding-high, holding-same, is_among, take-holding}
 use Rattle.nv_tags.proofs.Together.{among-all, lowest-some}
 
@@ -17,12 +17,6 @@ pub claimed-count : (slots : List Slot) (count : ℕ) (tags : List ℕ) → clai
 claimed-count slots count tags found =
     let both = lowest-some count (free_slots slots) tags found in
     ap length both.0 ∙ length-take-le count (free_slots slots) both.1
-
--- a tag, as it is read
-slot_at-read : (slots : List Slot) (tag : ℕ) → slot_at slots tag ≡ slice_index_or slots tag Free
-slot_at-read [] tag = refl
-slot_at-read (s ∷ slots) zero = refl
-slot_at-read (s ∷ slots) (suc tag) = slot_at-read slots tag
 
 slot_at-past : (slots : List Slot) (tag : ℕ) → length slots ≤ tag → slot_at slots tag ≡ Free
 slot_at-past [] tag past = refl
@@ -37,10 +31,7 @@ module _ (slots : List Slot) (count leader : ℕ) (tags : List ℕ) (command : C
 
   taken-at : (t : ℕ) → t < length slots
       → slot_at (taken_by command tags slots) t ≡ cond (is_among tags t) (Used command Taken) (slot_at slots t)
-  taken-at t within =
-      slot_at-read (taken_by command tags slots) t
-      ∙ read-set_each tags (Used command Taken) slots t Free within
-      ∙ ap (λ (s : Slot). cond (is_among tags t) (Used command Taken) s) (sym (slot_at-read slots t))
+  taken-at t within = slot_at-set_each tags (Used command Taken) slots t within
 
   -- each was free, and there
   was-free : (t : ℕ) → is_among tags t ≡ true → is_free (slot_at slots t) ≡ true

@@ -95,6 +95,27 @@ slot_at-map f [] i none = sym none
 slot_at-map f (x ∷ xs) zero none = refl
 slot_at-map f (x ∷ xs) (suc i) none = slot_at-map f xs i none
 
+-- a tag, as it is read
+slot_at-read : (slots : List Slot) (tag : ℕ) → slot_at slots tag ≡ slice_index_or slots tag Free
+slot_at-read [] tag = refl
+slot_at-read (s ∷ slots) zero = refl
+slot_at-read (s ∷ slots) (suc tag) = slot_at-read slots tag
+
+-- after a write, and after several
+pub slot_at-set : (slots : List Slot) (at t : ℕ) (s : Slot) → at < length slots
+    → slot_at (set slots at s) t ≡ cond (t == at) s (slot_at slots t)
+slot_at-set slots at t s within =
+    slot_at-read (set slots at s) t ∙ read-set slots at t s Free within ∙ ap (λ (x : Slot). cond (t == at) s x) (sym (slot_at-read slots t))
+
+pub slot_at-set_each : (tags : List ℕ) (s : Slot) (slots : List Slot) (t : ℕ) → t < length slots
+    → slot_at (set_each tags s slots) t ≡ cond (is_among tags t) s (slot_at slots t)
+slot_at-set_each tags s slots t within =
+    slot_at-read (set_each tags s slots) t ∙ read-set_each tags s slots t Free within
+    ∙ ap (λ (x : Slot). cond (is_among tags t) s x) (sym (slot_at-read slots t))
+
+pub slot_at-free : (count t : ℕ) → t < count → slot_at (replicate count Free) t ≡ Free
+slot_at-free count t below = slot_at-read (replicate count Free) t ∙ get_or-replicate count t Free Free below
+
 -- ---- tests
 
 pub test_bit : (b : Bool) → bit b == 1 ≡ b

@@ -3,6 +3,7 @@ pub mod Groups
 pub mod Lowest
 pub mod Masks
 pub mod Marks
+pub mod Owners
 pub mod Rows
 pub mod Slots
 pub mod Together

@@ -1,159 +1,163 @@
--- The lowest free tags, one after another
-use Rattle.std.proofs.Common.{◌≡◌, ℕ, ◌+◌, ◌-◌, ◌<◌, ◌≤◌, ◌==◌, ◌&&◌, nat_le, nat_lt, cond, Bool, true, false, inl, inr, List, [], ◌∷◌, ◌++◌}
-use Rattle.std.proofs.Common.{Some, None, length, length-append, slice_index_or, take, arith, refl, sym, ap, ◌∙◌}
-use Rattle.std.specs.Int.{bit_at}
-use Rattle.std.proofs.lemmas.Bool.{cases_eq, eq-eqb, le-leb, le-ltb, lt-leb, lt-ltb, ne_eqb}
-use Rattle.std.proofs.lemmas.Bool.Decides.{nat_tests}
-use Rattle.std.proofs.lemmas.List.{append-nil, get_or_default, take_at}
-use Rattle.nv_entry.specs.Status.{bit}
-use Rattle.nv_tags.specs.Kept.{IsWith, free_states, is_free_at, tags_in}
-use Rattle.nv_tags.specs.Tags.{is_free_state, lowest}
+-- The lowest tags of a mask, one after another
+use Rattle.std.proofs.Common.{◌≡◌, ℕ, zero, suc, ◌+◌, ◌^◌, ◌<◌, ◌≤◌, ◌==◌, ◌||◌, not, nat_le, cond, Bool, true, false, inl, inr, List, [], ◌∷◌}
+use Rattle.std.proofs.Common.{Option, Some, None, is_some, count_ones, drop, length, take, arith, refl, sym, ap, ◌∙◌}
+use Rattle.std.specs.Int.{bit_at, trailing_zeros, w64}
+use Rattle.std.proofs.lemmas.Bool.{cases_eq, eq-eqb, eqb-true, le-leb, lt-leb, ne_eqb}
+use Rattle.std.proofs.lemmas.List.{length-drop}
+use Rattle.std.proofs.lemmas.Nat.Bits.{bit_at-trailing_zeros, bit_at-zero}
+use Rattle.nv_tags.specs.Kept.{AreKept, IsMask, IsWith, is_free_at, slots_of, tags_in}
+use Rattle.nv_tags.specs.Tags.{Slot, claimed, free_slot, free_slots, is_free, is_free_state, leader_in, lowest}
+use Rattle.nv_tags.specs.declared.claim.Claim.{Claim}
 use Rattle.nv_tags.specs.declared.state.TagState.{TagState}
-use Rattle.nv_tags.specs.declared.state.TagState.TheVariants as state
-use Rattle.nv_tags.proofs.Masks.{is_set}
-use Rattle.nv_tags.proofs.Rows.{holding, holding-append, holding-none, holding-same}
+use Rattle.nv_tags.proofs.Masks.{among-tags_in, is_set, ones-tags_in, tags_in-lowest, tags_in-zero, without-is}
+use Rattle.nv_tags.proofs.Marks.{free-masked, marked-seen}
+use Rattle.nv_tags.proofs.Rows.{holding-same, is_among, take-holding}
+use Rattle.nv_tags.proofs.Slots.{slot-free}
+use Rattle.nv_tags.proofs.Together.{claimed-one, found-free, single}
 
--- what a loop over the tags keeps: the mask has the free ones before `at`, which are as many as were asked for without those that are left
-pub record IsLowest (states : List TagState) (at mask left count : ℕ) : Type 0 where
-  pub size : length states ≡ 64
-  pub there : at ≤ 64
-  pub bits : (t : ℕ) → t < 64 → bit_at mask t ≡ bit (nat_lt t at && is_free_at states t)
-  pub some : 0 < left
-  pub many : left + length (holding (is_free_at states) 0 at) ≡ count
+-- what a loop keeps: so many of the lowest tags of the mask are found, and those that are left are the others
+pub record IsLowest (mask at found count : ℕ) (left : List ℕ) : Type 0 where
+  pub most : at ≤ count
+  pub enough : at ≤ length (tags_in mask)
+  pub rest : left ≡ drop at (tags_in mask)
+  pub bits : (t : ℕ) → t < 64 → is_set found t ≡ is_among (take at (tags_in mask)) t
 
--- whether a tag is free, as it is read
-pub free-read : (states : List TagState) (at i : ℕ) (s : TagState) (free : Bool) → length states ≡ 64 → i ≡ at → at < 64
-    → free ≡ is_free_state (slice_index_or states i s) → is_free_at states at ≡ free
-free-read states at i s free size same there tells =
-    sym (tells ∙ ap is_free_state (get_or_default states i s state.Free (omega arith) ∙ ap (λ (n : ℕ). slice_index_or states n state.Free) same))
-
--- one more number at the end
-holding-more : (test : ℕ → Bool) (at : ℕ) (b : Bool) → test at ≡ b
-    → holding test 0 (at + 1) ≡ holding test 0 at ++ cond b (at ∷ []) []
-holding-more test at b is =
-    let here : 0 + at ≡ at = omega arith in
-    holding-append test 0 at 1
-    ∙ ap (λ (n : ℕ). holding test 0 at ++ holding test n 1) here
-    ∙ ap (λ (x : Bool). holding test 0 at ++ cond x (at ∷ []) []) is
-
--- the bits where one more tag is looked at
-more-busy : (t at m : ℕ) (free here : Bool) → (t ≡ at → free ≡ here) → here ≡ false → m ≡ bit (nat_lt t at && free)
-    → m ≡ bit (nat_lt t (at + 1) && free)
-more-busy t at m free here same busy is =
-    (elim (cases_eq t at) [
-      | inl e ↦ (let none : free ≡ false = same e ∙ busy in is ∙ ap bit (never (nat_lt t at) (nat_lt t (at + 1)) free none))
-      | inr other ↦ (let before : nat_lt t at ≡ nat_lt t (at + 1) = grind (arith, nat_tests) in is ∙ ap (λ (b : Bool). bit (b && free)) before)
-    ])
-  where
-    never : (a b c : Bool) → c ≡ false → (a && c) ≡ (b && c)
-    never true true c same_c = refl
-    never true false c same_c = same_c
-    never false true c same_c = sym same_c
-    never false false c same_c = refl
-
-more-free : (t at m : ℕ) (free here : Bool) → (t ≡ at → free ≡ here) → here ≡ true → m ≡ bit (nat_lt t at && free)
-    → cond (t == at) 1 m ≡ bit (nat_lt t (at + 1) && free)
-more-free t at m free here same idle is =
-    (elim (cases_eq t at) [
-      | inl e ↦
-          (let all : free ≡ true = same e ∙ idle in
-          let before : nat_lt t (at + 1) ≡ true = lt-ltb t (at + 1) (omega arith) in
-          ap (λ (b : Bool). cond b 1 m) (eq-eqb t at e)
-          ∙ sym (ap (λ (b : Bool). bit (b && free)) before ∙ ap bit all))
-      | inr other ↦
-          (let before : nat_lt t at ≡ nat_lt t (at + 1) = grind (arith, nat_tests) in
-          ap (λ (b : Bool). cond b 1 m) (ne_eqb t at other) ∙ is ∙ ap (λ (b : Bool). bit (b && free)) before)
-    ])
-
-pub IsLowest-busy : (states : List TagState) (at mask left count : ℕ) → IsLowest states at mask left count → at < 64
-    → is_free_at states at ≡ false → IsLowest states (at + 1) mask left count
-IsLowest-busy states at mask left count so_far there busy =
-    let same = ap length (holding-more (is_free_at states) at false busy ∙ append-nil (holding (is_free_at states) 0 at)) in
-    let many = so_far.many in
+pub IsLowest-none : (mask found count : ℕ) → found ≡ 0 → IsLowest mask 0 found count (tags_in mask)
+IsLowest-none mask found count none =
     record {
-      size = so_far.size;
-      there = omega arith;
-      bits = λ t below. more-busy t at (bit_at mask t) (is_free_at states t) (is_free_at states at) (ap (is_free_at states)) busy (so_far.bits t below);
-      some = so_far.some;
-      many = omega arith;
+      most = omega arith;
+      enough = omega arith;
+      rest = refl;
+      bits = λ t below. ap (λ (n : ℕ). is_set n t) none ∙ ap (λ (n : ℕ). n == 1) (bit_at-zero t);
     }
 
--- as many as are found now
-found-one : (states : List TagState) (at : ℕ) → is_free_at states at ≡ true
-    → length (holding (is_free_at states) 0 (at + 1)) ≡ length (holding (is_free_at states) 0 at) + 1
-found-one states at free =
-    ap length (holding-more (is_free_at states) at true free) ∙ length-append (holding (is_free_at states) 0 at) (at ∷ [])
+-- one number more
+drop-next : (at : ℕ) (xs : List ℕ) (x : ℕ) (rest : List ℕ) → drop at xs ≡ x ∷ rest → drop (suc at) xs ≡ rest
+drop-next zero [] x rest is = (cc)
+drop-next zero (y ∷ xs) x rest is = (cc)
+drop-next (suc at) [] x rest is = (cc)
+drop-next (suc at) (y ∷ xs) x rest is = drop-next at xs x rest is
 
-pub IsLowest-free : (states : List TagState) (at mask left count now less : ℕ) → IsLowest states at mask left count → at < 64
-    → is_free_at states at ≡ true → IsWith mask at now → less + 1 ≡ left → (less ≡ 0 → ⊥) → IsLowest states (at + 1) now less count
-IsLowest-free states at mask left count now less so_far there free with one more =
-    let found = found-one states at free in
-    let many = so_far.many in
-    record {
-      size = so_far.size;
-      there = omega arith;
-      bits = λ t below.
-          with t below
-          ∙ more-free t at (bit_at mask t) (is_free_at states t) (is_free_at states at) (ap (is_free_at states)) free (so_far.bits t below);
-      some = omega arith;
-      many = omega arith;
-    }
-
--- a mask of the free tags before `at`
-masked : (states : List TagState) (at mask : ℕ) → at ≤ 64
-    → ((t : ℕ) → t < 64 → bit_at mask t ≡ bit (nat_lt t at && is_free_at states t))
-    → holding (is_set mask) 0 64 ≡ holding (is_free_at states) 0 at
-masked states at mask there bits =
-    let sum : 64 ≡ at + (64 - at) = omega arith in
-    ap (holding (is_set mask) 0) sum
-    ∙ holding-append (is_set mask) 0 at (64 - at)
-    ∙ ap (λ (xs : List ℕ). xs ++ holding (is_set mask) (0 + at) (64 - at))
-    (holding-same (is_set mask) (is_free_at states) 0 at (λ t low before.
-    ap (λ (n : ℕ). n == 1) (bits t (omega arith) ∙ ap (λ (b : Bool). bit (b && is_free_at states t)) (lt-ltb t at (omega arith)))
-    ∙ is_bit (is_free_at states t)))
-    ∙ ap (λ (xs : List ℕ). holding (is_free_at states) 0 at ++ xs)
-    (holding-none (is_set mask) (0 + at) (64 - at) (λ t low before.
-    ap (λ (n : ℕ). n == 1) (bits t (omega arith) ∙ ap (λ (b : Bool). bit (b && is_free_at states t)) (le-ltb t at (omega arith)))))
-    ∙ append-nil (holding (is_free_at states) 0 at)
+take-next : (at : ℕ) (xs : List ℕ) (x : ℕ) (rest : List ℕ) (i : ℕ) → drop at xs ≡ x ∷ rest
+    → is_among (take (suc at) xs) i ≡ (is_among (take at xs) i || x == i)
+take-next zero [] x rest i is = (cc)
+take-next zero (y ∷ xs) x rest i is = (let same : y ≡ x = (cc) in ap (λ (n : ℕ). n == i || false) same ∙ right_none (x == i))
   where
-    is_bit : (b : Bool) → bit b == 1 ≡ b
-    is_bit true = refl
-    is_bit false = refl
+    right_none : (b : Bool) → (b || false) ≡ b
+    right_none true = refl
+    right_none false = refl
+take-next (suc at) [] x rest i is = (cc)
+take-next (suc at) (y ∷ xs) x rest i is = ap (λ (b : Bool). y == i || b) (take-next at xs x rest i is) ∙ joined (y == i) (is_among (take at xs) i) (x == i)
+  where
+    joined : (a b c : Bool) → (a || (b || c)) ≡ ((a || b) || c)
+    joined true b c = refl
+    joined false b c = refl
 
--- the lowest are those in front
-lowest-front : (count : ℕ) (front rest all : List ℕ) → all ≡ front ++ rest → length front ≡ count → Some front ≡ lowest count all
-lowest-front count front rest all is many =
-    let long = ap length is ∙ length-append front rest in
-    let enough : nat_le count (length all) ≡ true = le-leb count (length all) (omega arith) in
-    sym (ap (λ (b : Bool). cond b (Some (take count all)) None) enough ∙ ap (λ (xs : List ℕ). Some (take count xs)) is
-    ∙ ap (λ (xs : List ℕ). Some xs) (take_at front rest count many))
+pub IsLowest-more : (mask at found count : ℕ) (left rest : List ℕ) (tag now next : ℕ) → IsLowest mask at found count left → at < count
+    → left ≡ tag ∷ rest → IsWith found tag now → next ≡ at + 1 → IsLowest mask next now count rest
+IsLowest-more mask at found count left rest tag now next so_far below front with one =
+    let here : drop at (tags_in mask) ≡ tag ∷ rest = sym so_far.rest ∙ front in
+    let long = length-drop at (tags_in mask) in
+    let size = ap (λ (xs : List ℕ). length xs) here in
+    let step : suc at ≡ next = omega arith in
+    record {
+      most = omega arith;
+      enough = omega arith;
+      rest = sym (drop-next at (tags_in mask) tag rest here) ∙ ap (λ (n : ℕ). drop n (tags_in mask)) step;
+      bits = λ t low.
+          ap (λ (n : ℕ). n == 1) (with t low)
+          ∙ by_tag t (t == tag) refl
+          ∙ ap (λ (b : Bool). b || tag == t) (so_far.bits t low)
+          ∙ sym (take-next at (tags_in mask) tag rest t here)
+          ∙ ap (λ (n : ℕ). is_among (take n (tags_in mask)) t) step;
+    }
+  where
+    never : true ≡ false → ⊥
+    never e = (cc)
 
-pub IsLowest-last : (states : List TagState) (at mask left count now : ℕ) → IsLowest states at mask left count → at < 64
-    → is_free_at states at ≡ true → IsWith mask at now → left ≡ 1
-    → Some (tags_in now) ≡ lowest count (free_states states)
-unfolding tags_in free_states
-IsLowest-last states at mask left count now so_far there free with last =
-    let free_at : ℕ → Bool = is_free_at states in
-    let found = found-one states at free in
-    let many = so_far.many in
-    let size = so_far.size in
-    let sum : length states ≡ at + 1 + (63 - at) = omega arith in
+    right_all : (b : Bool) → true ≡ (b || true)
+    right_all true = refl
+    right_all false = refl
+
+    right_none : (b : Bool) → b ≡ (b || false)
+    right_none true = refl
+    right_none false = refl
+
+    by_tag : (t : ℕ) (b : Bool) → t == tag ≡ b → cond b 1 (bit_at found t) == 1 ≡ (is_set found t || tag == t)
+    by_tag t true same = right_all (is_set found t) ∙ ap (λ (b : Bool). is_set found t || b) (sym (eq-eqb tag t (sym (eqb-true t tag same))))
+    by_tag t false other =
+        right_none (is_set found t) ∙ ap (λ (b : Bool). is_set found t || b) (sym (ne_eqb tag t (λ e. never (sym (eq-eqb t tag (sym e)) ∙ other))))
+
+-- as many as were asked for
+pub IsLowest-all : (mask at found count : ℕ) (left : List ℕ) → IsLowest mask at found count left → count ≤ at
+    → Some (tags_in found) ≡ lowest count (tags_in mask)
+unfolding tags_in
+IsLowest-all mask at found count left so_far all =
+    let most = so_far.most in
+    let enough = so_far.enough in
+    let same : at ≡ count = omega arith in
     ap (λ (xs : List ℕ). Some xs)
-    (masked states (at + 1) now (omega arith) (λ t below.
-    with t below
-    ∙ more-free t at (bit_at mask t) (is_free_at states t) (is_free_at states at) (ap (is_free_at states)) free (so_far.bits t below)))
-    ∙ lowest-front count (holding free_at 0 (at + 1)) (holding free_at (0 + (at + 1)) (63 - at)) (holding free_at 0 (length states))
-    (ap (holding free_at 0) sum ∙ holding-append free_at 0 (at + 1) (63 - at)) (omega arith)
+    (holding-same (is_set found) (is_among (take at (tags_in mask))) 0 64 (λ t low below. so_far.bits t below)
+    ∙ sym (take-holding (is_set mask) 0 64 at) ∙ ap (λ (n : ℕ). take n (tags_in mask)) same)
+    ∙ sym (ap (λ (b : Bool). cond b (Some (take count (tags_in mask))) None) (le-leb count (length (tags_in mask)) (omega arith)))
 
-pub IsLowest-end : (states : List TagState) (at mask left count : ℕ) → IsLowest states at mask left count → 64 ≤ at
-    → None ≡ lowest count (free_states states)
-unfolding free_states
-IsLowest-end states at mask left count so_far over =
-    let free_at : ℕ → Bool = is_free_at states in
-    let there = so_far.there in
-    let some = so_far.some in
-    let size = so_far.size in
-    let all : at ≡ length states = omega arith in
-    let many : left + length (holding free_at 0 (length states)) ≡ count = ap (λ (n : ℕ). left + length (holding free_at 0 n)) (sym all) ∙ so_far.many in
-    let few : nat_le count (length (holding free_at 0 (length states))) ≡ false = lt-leb count (length (holding free_at 0 (length states))) (omega arith) in
-    sym (ap (λ (b : Bool). cond b (Some (take count (holding free_at 0 (length states)))) None) few)
+-- fewer are there
+pub IsLowest-few : (mask at found count : ℕ) (left : List ℕ) → IsLowest mask at found count left → at < count → left ≡ []
+    → None ≡ lowest count (tags_in mask)
+IsLowest-few mask at found count left so_far below over =
+    let long = length-drop at (tags_in mask) in
+    let size = ap (λ (xs : List ℕ). length xs) (sym so_far.rest ∙ over) in
+    sym (ap (λ (b : Bool). cond b (Some (take count (tags_in mask))) None) (lt-leb count (length (tags_in mask)) (omega arith)))
+
+-- ---- the lowest of a lane
+
+-- tags of a mask that are the lowest free ones are free
+pub found-idle : (states : List TagState) (free mask count : ℕ) → length states ≡ 64 → IsMask is_free_state states free
+    → Some (tags_in mask) ≡ lowest count (tags_in free) → (t : ℕ) → t < 64 → is_set mask t ≡ true → is_free_at states t ≡ true
+found-idle states free mask count many is found t below its =
+    found-free states count (tags_in mask) t (found ∙ ap (lowest count) (free-masked states free many is)) (among-tags_in mask t below ∙ its)
+
+-- the first free tag is the first of the free tags
+lowest-one : (xs : List ℕ) → leader_in (lowest 1 xs) ≡ leader_in (Some xs)
+lowest-one [] = refl
+lowest-one (x ∷ xs) = ap (λ (b : Bool). leader_in (cond b (Some (x ∷ [])) None)) (le-leb 1 (suc (length xs)) (omega arith))
+
+first-free : (slots : List Slot) (tags : List ℕ) → tags ≡ free_slots slots → leader_in (Some tags) ≡ free_slot slots
+first-free slots tags are =
+    ap (λ (xs : List ℕ). leader_in (Some xs)) are ∙ sym (lowest-one (free_slots slots)) ∙ ap leader_in (claimed-one slots) ∙ sym (single (free_slot slots))
+
+module _ (states : List TagState) (claims : List Claim) (leaders groups : List ℕ) (kept : AreKept states claims leaders groups)
+    (slots : List Slot) (seen : slots_of states claims leaders ≡ slots) (free : ℕ) (is : IsMask is_free_state states free) where
+  free-seen : tags_in free ≡ free_slots slots
+  free-seen = marked-seen states claims leaders groups kept slots seen is_free_state is_free free slot-free is
+
+  -- those that are claimed
+  pub lowest-seen : (count : ℕ) → lowest count (tags_in free) ≡ claimed count slots
+  lowest-seen count = ap (lowest count) free-seen
+
+  pub first-seen : (tags : List ℕ) → tags ≡ tags_in free → leader_in (Some tags) ≡ free_slot slots
+  first-seen tags are = first-free slots tags (are ∙ free-seen)
+
+  -- some tag is free
+  pub any-seen : free < 2 ^ 64 → not (free == 0) ≡ is_some (free_slot slots)
+  any-seen fits =
+      (elim (cases_eq free 0) [
+        | inl none ↦
+            ap (λ (b : Bool). not b) (eq-eqb free 0 none)
+            ∙ ap (λ (o : Option ℕ). is_some o) (first-seen [] (tags_in-zero free none))
+        | inr some ↦
+            (let lowest_at = bit_at-trailing_zeros w64 free (omega arith) fits in
+            ap (λ (b : Bool). not b) (ne_eqb free 0 some)
+            ∙ ap (λ (o : Option ℕ). is_some o)
+            (first-seen _ (sym (tags_in-lowest free _ (omega arith) fits (without-is free (trailing_zeros w64 free) lowest_at.0)))))
+      ])
+
+  -- so many are free
+  pub many-seen : (count : ℕ) → free < 2 ^ 64 → nat_le count (count_ones free) ≡ is_some (claimed count slots)
+  many-seen count fits =
+      ap (nat_le count) (ones-tags_in free fits ∙ ap (λ (xs : List ℕ). length xs) free-seen)
+      ∙ told (nat_le count (length (free_slots slots)))
+    where
+      told : (b : Bool) → b ≡ is_some (cond b (Some (take count (free_slots slots))) None)
+      told true = refl
+      told false = refl

@@ -1,14 +1,14 @@
 -- The masks of the tags that are at a point, as tags move on
-use Rattle.std.proofs.Common.{◌≡◌, ℕ, ◌-◌, ◌^◌, ◌<◌, ◌==◌, cond, max, Bool, true, false, inl, inr, List, length, length-set, replicate, set}
+use Rattle.std.proofs.Common.{◌≡◌, ℕ, ◌-◌, ◌^◌, ◌<◌, ◌==◌, ◌||◌, cond, max, Bool, true, false, inl, inr, List, ◌∷◌, length, replicate, set}
 use Rattle.std.proofs.Common.{slice_index_or, arith, refl, sym, ap, ◌∙◌}
 use Rattle.std.specs.Int.{bit_at, w64}
 use Rattle.std.specs.Prelude.{bit_and, bit_or, min}
 use Rattle.std.proofs.lemmas.Bool.{cases_eq, eq-eqb, ne_eqb}
 use Rattle.std.proofs.lemmas.List.{get_or-replicate}
-use Rattle.std.proofs.lemmas.Nat.Bits.{bit_at-zero, bit_at_and, bit_at_not, bit_at_or}
+use Rattle.std.proofs.lemmas.Nat.Bits.{bit_at-zero, bit_at_and, bit_at_not, bit_at_ones, bit_at_or}
 use Rattle.nv_entry.specs.Status.{bit}
 use Rattle.nv_world_model.specs.World.{Command}
-use Rattle.nv_tags.specs.Kept.{AreKept, AreMarked, IsMask, IsWith, IsWithout, is_ended_state, is_free_at, is_taken_state, slots_of, tags_in}
+use Rattle.nv_tags.specs.Kept.{AreKept, AreMarked, IsMask, IsWith, IsWithout, free_states, is_ended_state, is_free_at, is_taken_state, slots_of, tags_in}
 use Rattle.nv_tags.specs.Tags.{Slot, command_of, is_ended, is_free_state, is_taken, set_each, slot_at, slot_of, tags_where}
 use Rattle.nv_tags.specs.declared.claim.Claim.{Claim}
 use Rattle.nv_tags.specs.declared.state.TagState.{TagState}
@@ -68,91 +68,106 @@ module _ (test : TagState → Bool) (states : List TagState) (mask at : ℕ) (s 
 
 -- ---- several tags move
 
-module _ (states : List TagState) (tags : List ℕ) (taken : ℕ) (many : length states ≡ 64) (are : tags ≡ tags_in taken) where
-  among-is : (t : ℕ) → t < 64 → is_among tags t ≡ is_set taken t
-  among-is t below = ap (λ (xs : List ℕ). is_among xs t) are ∙ among-tags_in taken t below
+-- those of a mask
+pub among-mask : (tags : List ℕ) (mask : ℕ) → tags ≡ tags_in mask → (t : ℕ) → t < 64 → is_among tags t ≡ is_set mask t
+among-mask tags mask are t below = ap (λ (xs : List ℕ). is_among xs t) are ∙ among-tags_in mask t below
 
-  each-read : (s : TagState) (t : ℕ) → t < 64
-      → slice_index_or (set_each tags s states) t state.Free ≡ cond (is_set taken t) s (slice_index_or states t state.Free)
-  each-read s t below =
-      read-set_each tags s states t state.Free (omega arith)
-      ∙ ap (λ (b : Bool). cond b s (slice_index_or states t state.Free)) (among-is t below)
+-- a leader, and those of its group
+pub among-freed : (tags : List ℕ) (group freed at leader : ℕ) → tags ≡ tags_in group → at ≡ leader → IsWith group leader freed
+    → (t : ℕ) → t < 64 → is_among (at ∷ tags) t ≡ is_set freed t
+among-freed tags group freed at leader are same with t below =
+    (elim (cases_eq t leader) [
+      | inl its ↦
+          ap (λ (b : Bool). b || is_among tags t) (eq-eqb at t (same ∙ sym its))
+          ∙ sym (ap (λ (n : ℕ). n == 1) (with t below ∙ ap (λ (b : Bool). cond b 1 (bit_at group t)) (eq-eqb t leader its)))
+      | inr other ↦
+          ap (λ (b : Bool). b || is_among tags t) (ne_eqb at t (λ e. other (sym e ∙ same)))
+          ∙ among-mask tags group are t below
+          ∙ sym (ap (λ (n : ℕ). n == 1) (with t below ∙ ap (λ (b : Bool). cond b 1 (bit_at group t)) (ne_eqb t leader other)))
+    ])
 
-  -- they are taken
-  pub mask-taken : (mask : ℕ) → IsMask is_taken_state states mask → IsMask is_taken_state (set_each tags state.Taken states) (bit_or mask taken)
-  mask-taken mask is t below =
-      bit_at_or mask taken t ∙ ap (λ (n : ℕ). max n (bit_at taken t)) (is t below)
-      ∙ ap (max (bit (is_taken_state (slice_index_or states t state.Free)))) (bit_test taken t)
-      ∙ join (is_set taken t) (slice_index_or states t state.Free)
-      ∙ sym (ap (λ (x : TagState). bit (is_taken_state x)) (each-read state.Taken t below))
+module _ (test : TagState → Bool) (states : List TagState) (mask : ℕ) (is : IsMask test states mask) (tags : List ℕ) (moved : ℕ)
+    (many : length states ≡ 64) (are : (t : ℕ) → t < 64 → is_among tags t ≡ is_set moved t) (s : TagState) where
+  each-read : (t : ℕ) → t < 64
+      → bit (test (slice_index_or (set_each tags s states) t state.Free)) ≡ bit (test (cond (is_set moved t) s (slice_index_or states t state.Free)))
+  each-read t below =
+      ap (λ (x : TagState). bit (test x))
+      (read-set_each tags s states t state.Free (omega arith)
+      ∙ ap (λ (b : Bool). cond b s (slice_index_or states t state.Free)) (are t below))
+
+  -- they are all of them now
+  pub mask-joined : test s ≡ true → IsMask test (set_each tags s states) (bit_or mask moved)
+  mask-joined holds t below =
+      bit_at_or mask moved t ∙ ap (λ (n : ℕ). max n (bit_at moved t)) (is t below)
+      ∙ ap (max (bit (test (slice_index_or states t state.Free)))) (bit_test moved t)
+      ∙ join (is_set moved t) (slice_index_or states t state.Free)
+      ∙ sym (each-read t below)
     where
-      join : (b : Bool) (x : TagState) → max (bit (is_taken_state x)) (bit b) ≡ bit (is_taken_state (cond b state.Taken x))
-      join true state.Free = refl
-      join true state.Taken = refl
-      join true state.Flying = refl
-      join true (state.Ended st) = refl
-      join false state.Free = refl
-      join false state.Taken = refl
-      join false state.Flying = refl
-      join false (state.Ended st) = refl
+      one : (b : Bool) → max (bit b) 1 ≡ 1
+      one true = refl
+      one false = refl
 
-  -- none of them had ended
-  pub mask-unended : (mask : ℕ) → ((t : ℕ) → t < 64 → is_set taken t ≡ true → is_free_at states t ≡ true) → IsMask is_ended_state states mask
-      → IsMask is_ended_state (set_each tags state.Taken states) mask
-  mask-unended mask idle is t below =
-      is t below ∙ join (is_set taken t) refl ∙ sym (ap (λ (x : TagState). bit (is_ended_state x)) (each-read state.Taken t below))
+      none : (b : Bool) → max (bit b) 0 ≡ bit b
+      none true = refl
+      none false = refl
+
+      join : (b : Bool) (x : TagState) → max (bit (test x)) (bit b) ≡ bit (test (cond b s x))
+      join true x = one (test x) ∙ sym (ap bit holds)
+      join false x = none (test x)
+
+  -- they are none of them now
+  pub mask-parted : test s ≡ false → moved < 2 ^ 64 → IsMask test (set_each tags s states) (bit_and mask (18446744073709551615 - moved))
+  mask-parted fails fits t below =
+      bit_at_and mask (18446744073709551615 - moved) t
+      ∙ ap (min (bit_at mask t)) (bit_at_not w64 moved t fits below)
+      ∙ ap (λ (n : ℕ). min n (1 - bit_at moved t)) (is t below)
+      ∙ ap (λ (n : ℕ). min (bit (test (slice_index_or states t state.Free))) (1 - n)) (bit_test moved t)
+      ∙ join (is_set moved t) (slice_index_or states t state.Free)
+      ∙ sym (each-read t below)
     where
-      join : (b : Bool) → is_set taken t ≡ b
-          → bit (is_ended_state (slice_index_or states t state.Free)) ≡ bit (is_ended_state (cond b state.Taken (slice_index_or states t state.Free)))
-      join true set = ap bit (free-not (slice_index_or states t state.Free) (idle t below set)).1
+      none : (b : Bool) → min (bit b) 0 ≡ 0
+      none true = refl
+      none false = refl
+
+      all : (b : Bool) → min (bit b) 1 ≡ bit b
+      all true = refl
+      all false = refl
+
+      join : (b : Bool) (x : TagState) → min (bit (test x)) (1 - bit b) ≡ bit (test (cond b s x))
+      join true x = none (test x) ∙ sym (ap bit fails)
+      join false x = all (test x)
+
+  -- they are none of them, as before
+  pub mask-none : test s ≡ false → ((t : ℕ) → t < 64 → is_set moved t ≡ true → test (slice_index_or states t state.Free) ≡ false)
+      → IsMask test (set_each tags s states) mask
+  mask-none fails before t below = is t below ∙ join (is_set moved t) refl ∙ sym (each-read t below)
+    where
+      join : (b : Bool) → is_set moved t ≡ b
+          → bit (test (slice_index_or states t state.Free)) ≡ bit (test (cond b s (slice_index_or states t state.Free)))
+      join true set = ap bit (before t below set ∙ sym fails)
       join false set = refl
 
--- a group is free
-pub mask-freed : (test : TagState → Bool) (states : List TagState) (mask group freed at leader : ℕ) (tags : List ℕ) → test state.Free ≡ false
-    → IsMask test states mask → length states ≡ 64 → at < 64 → at ≡ leader → tags ≡ tags_in group → IsWith group leader freed → freed < 2 ^ 64
-    → IsMask test (set_each tags state.Free (set states at state.Free)) (bit_and mask (18446744073709551615 - freed))
-mask-freed test states mask group freed at leader tags fails is many there same are with fits t below =
-    bit_at_and mask (18446744073709551615 - freed) t
-    ∙ ap (min (bit_at mask t)) (bit_at_not w64 freed t fits below)
-    ∙ ap (λ (n : ℕ). min n (1 - bit_at freed t)) (is t below)
-    ∙ ap (λ (n : ℕ). min (bit (test x)) (1 - n))
-    (with t below ∙ ap (λ (n : ℕ). cond (t == leader) 1 n) (bit_test group t) ∙ ap (λ (n : ℕ). cond (t == n) 1 (bit (is_set group t))) (sym same))
-    ∙ join (is_set group t) (t == at) x
-    ∙ sym (ap (λ (y : TagState). bit (test y)) now-read)
-  where
-    x : TagState
-    x = slice_index_or states t state.Free
-
-    now-read : slice_index_or (set_each tags state.Free (set states at state.Free)) t state.Free
-        ≡ cond (is_set group t) state.Free (cond (t == at) state.Free x)
-    now-read =
-        (let long = length-set states at state.Free in
-        read-set_each tags state.Free (set states at state.Free) t state.Free (omega arith)
-        ∙ ap (λ (b : Bool). cond b state.Free (slice_index_or (set states at state.Free) t state.Free))
-        (ap (λ (xs : List ℕ). is_among xs t) are ∙ among-tags_in group t below)
-        ∙ ap (λ (y : TagState). cond (is_set group t) state.Free y) (read-set states at t state.Free state.Free (omega arith)))
-
-    none : (b : Bool) → min (bit b) 0 ≡ 0
-    none true = refl
-    none false = refl
-
-    all : (b : Bool) → min (bit b) 1 ≡ bit b
-    all true = refl
-    all false = refl
-
-    join : (b e : Bool) (y : TagState) → min (bit (test y)) (1 - cond e 1 (bit b)) ≡ bit (test (cond b state.Free (cond e state.Free y)))
-    join true true y = none (test y) ∙ sym (ap bit fails)
-    join true false y = none (test y) ∙ sym (ap bit fails)
-    join false true y = none (test y) ∙ sym (ap bit fails)
-    join false false y = all (test y)
-
 -- all tags are free
-pub marked-new : AreMarked (replicate 64 state.Free) 0 0
+pub marked-new : AreMarked (replicate 64 state.Free) 18446744073709551615 0 0
 marked-new =
     record {
+      free_are = λ t below. bit_at_ones 64 t below ∙ sym (ap (λ (x : TagState). bit (is_free_state x)) (get_or-replicate 64 t state.Free state.Free below));
       taken_are = λ t below. bit_at-zero t ∙ sym (ap (λ (x : TagState). bit (is_taken_state x)) (get_or-replicate 64 t state.Free state.Free below));
       ended_are = λ t below. bit_at-zero t ∙ sym (ap (λ (x : TagState). bit (is_ended_state x)) (get_or-replicate 64 t state.Free state.Free below));
     }
+
+-- what holds of a tag that is set
+pub mask-holds : (test : TagState → Bool) (states : List TagState) (mask : ℕ) → IsMask test states mask → (t : ℕ) → t < 64 → is_set mask t ≡ true
+    → test (slice_index_or states t state.Free) ≡ true
+mask-holds test states mask is t below set =
+    sym (test_bit (test (slice_index_or states t state.Free))) ∙ sym (ap (λ (n : ℕ). n == 1) (is t below)) ∙ set
+
+-- the free tags
+pub free-masked : (states : List TagState) (free : ℕ) → length states ≡ 64 → IsMask is_free_state states free → tags_in free ≡ free_states states
+unfolding tags_in free_states
+free-masked states free many is =
+    holding-same (is_set free) (is_free_at states) 0 64 (λ t low below. ap (λ (n : ℕ). n == 1) (is t below) ∙ test_bit (is_free_at states t))
+    ∙ sym (ap (holding (is_free_at states) 0) many)
 
 -- ---- as they are seen
 

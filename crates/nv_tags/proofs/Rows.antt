@@ -1,10 +1,9 @@
 -- The numbers in a row of which a test holds, in order
-use Rattle.std.proofs.Common.{◌≡◌, ℕ, zero, suc, ◌+◌, ◌<◌, ◌≤◌, ◌==◌, ◌||◌, cond, Bool, true, false, inl, inr, List, [], ◌∷◌, ◌++◌, take, arith}
+use Rattle.std.proofs.Common.{◌≡◌, ℕ, zero, suc, ◌+◌, ◌<◌, ◌≤◌, ◌==◌, ◌||◌, cond, Bool, true, false, inl, inr, List, [], ◌∷◌, length, take, arith}
 use Rattle.std.proofs.Common.{refl, sym, ap, ◌∙◌, subst}
 use Rattle.std.specs.List.{All, filter, list_any, range_with_len}
 use Rattle.std.proofs.lemmas.Bool.{cases_eq, eq-eqb, ne_eqb}
-use Rattle.std.proofs.lemmas.List.Elements.{All-cons, All-nil, All-take, filter-append}
-use Rattle.nv_world_model.proofs.ShareNumbers.{range-append}
+use Rattle.std.proofs.lemmas.List.Elements.{All-cons, All-nil, All-take}
 
 -- those among `count` numbers from `from` on
 abbrev pub holding : (ℕ → Bool) → (from count : ℕ) → List ℕ
@@ -61,12 +60,26 @@ holding-lowest test other from (suc count) at low high here before others =
           ∙ ap (λ (b : Bool). cond b false (test from)) (ne_eqb from at later) ∙ no))))
     ])
 
--- in two rows
-pub holding-append : (test : ℕ → Bool) (from front rest : ℕ)
-    → holding test from (front + rest) ≡ holding test from front ++ holding test (from + front) rest
-holding-append test from front rest =
-    ap (filter test) (range-append from front rest)
-    ∙ filter-append test (range_with_len from front) (range_with_len (from + front) rest)
+-- two rows of one length, of whose numbers tests say the same
+pub length-holding : (test other : ℕ → Bool) (from at count : ℕ) → ((i : ℕ) → i < count → test (from + i) ≡ other (at + i))
+    → length (holding test from count) ≡ length (holding other at count)
+length-holding test other from at zero same = refl
+length-holding test other from at (suc count) same =
+    let first : from ≡ from + 0 = omega arith in
+    let second : at + 0 ≡ at = omega arith in
+    let here : test from ≡ other at = ap test first ∙ same 0 (omega arith) ∙ ap other second in
+    let rest : length (holding test (from + 1) count) ≡ length (holding other (at + 1) count) =
+    length-holding test other (from + 1) (at + 1) count (λ i below.
+    (let one_more : from + 1 + i ≡ from + suc i = omega arith in
+    let too : at + suc i ≡ at + 1 + i = omega arith in
+    ap test one_more ∙ same (suc i) (omega arith) ∙ ap other too)) in
+    ap length (one test from count (other at) here)
+    ∙ by_test (other at) (holding test (from + 1) count) (holding other (at + 1) count) rest
+    ∙ sym (ap length (one other at count (other at) refl))
+  where
+    by_test : (b : Bool) (xs ys : List ℕ) → length xs ≡ length ys → length (cond b (from ∷ xs) xs) ≡ length (cond b (at ∷ ys) ys)
+    by_test true xs ys as_many = ap suc as_many
+    by_test false xs ys as_many = as_many
 
 -- each lies there
 pub holding-low : (test : ℕ → Bool) (from count : ℕ) → All (λ i. from ≤ i) (holding test from count)

@@ -2,10 +2,9 @@
 use Rattle.std.proofs.Common.{◌≡◌, ◌≢◌, ◌⊎◌, ℕ, zero, suc, ◌<◌, ◌≤◌, ◌==◌, not, ◌&&◌, false, true, List, [], ◌∷◌, length, set, slice_index, slice_index_or, replicate}
 use Rattle.std.proofs.Common.{Some, arith, refl, sym, ap, ◌∙◌, subst, inl, inr}
 use Rattle.std.proofs.lemmas.Bool.{cases_lt, eq-eqb}
-use Rattle.std.specs.List.{position, position_or_len}
 use Rattle.nv_world_model.specs.World.{Command}
 use Rattle.nv_tags.specs.Kept.{AreKept, is_free_at, slots_of}
-use Rattle.nv_tags.specs.Tags.{Free, Point, Slot, Taken, Used, command_in, command_of, free_slot, goes_by, is_free, is_free_state, leader_of, moved_to}
+use Rattle.nv_tags.specs.Tags.{Free, Point, Slot, Taken, Used, command_in, command_of, goes_by, is_free, is_free_state, leader_of, moved_to}
 use Rattle.nv_tags.specs.Tags.{slot_at, slot_of, state_at, state_of, with_point}
 use Rattle.nv_tags.specs.declared.claim.Claim.{Claim}
 use Rattle.nv_tags.specs.declared.state.TagState.{TagState}
@@ -76,7 +75,7 @@ slots_of-free zero c = refl
 slots_of-free (suc count) c = ap (λ slots. Free ∷ slots) (slots_of-free count c)
 
 -- a tag is free where its state is
-slot-free : (s : TagState) (command : Command) → is_free (slot_of s command) ≡ is_free_state s
+pub slot-free : (s : TagState) (command : Command) → is_free (slot_of s command) ≡ is_free_state s
 slot-free state.Free command = refl
 slot-free state.Taken command = refl
 slot-free state.Flying command = refl
@@ -98,23 +97,6 @@ slot-goes_by state.Flying command leader = refl
 slot-goes_by (state.Ended st) command leader = refl
 
 -- ---- of a lane
-
--- the first free one
-pub position-slots : (states : List TagState) (claims : List Claim) (leaders : List ℕ)
-    → length states ≡ length claims → length states ≡ length leaders
-    → position_or_len is_free (slots_of states claims leaders) ≡ position_or_len is_free_state states
-unfolding slots_of
-position-slots [] claims leaders same too = refl
-position-slots (x ∷ states) [] leaders same too = absurd (omega arith)
-position-slots (x ∷ states) (y ∷ claims) [] same too = absurd (omega arith)
-position-slots (x ∷ states) (y ∷ claims) (z ∷ leaders) same too =
-    rw (slot-free x (command_of y z), position-slots states claims leaders (omega arith) (omega arith))
-
-pub free_slot-is : (states : List TagState) (claims : List Claim) (leaders : List ℕ)
-    → length states ≡ length claims → length states ≡ length leaders
-    → free_slot (slots_of states claims leaders) ≡ position is_free_state states
-free_slot-is states claims leaders same too =
-    rw (position-slots states claims leaders same too, slots_of-length states claims leaders same too)
 
 -- a tag whose command is at another point
 moved-slot : (point : Point) (s : TagState) (command : Command) → s ≢ state.Free → moved_to point (slot_of s command) ≡ Used command point

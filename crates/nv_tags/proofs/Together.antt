@@ -181,7 +181,7 @@ module _ (states : List TagState) (claims : List Claim) (leaders groups : List �
   now = set_each tags state.Free (set states at state.Free)
 
   -- which tags are behind
-  among-behind : (t : ℕ) → t < 64 → is_among tags t ≡ is_behind states leaders at t
+  pub among-behind : (t : ℕ) → t < 64 → is_among tags t ≡ is_behind states leaders at t
   among-behind t below =
       ap (λ (xs : List ℕ). is_among xs t) behind ∙ among-tags_in (slice_index groups at) t below
       ∙ ap (λ (n : ℕ). n == 1) (kept.behind at t there below) ∙ test_bit (is_behind states leaders at t)
@@ -195,7 +195,7 @@ module _ (states : List TagState) (claims : List Claim) (leaders groups : List �
       ∙ ap (λ (b : Bool). cond b state.Free (slice_index_or (set states at state.Free) t state.Free)) (among-behind t below)
       ∙ ap (λ (s : TagState). cond (is_behind states leaders at t) state.Free s) (read-set states at t state.Free state.Free (omega arith)))
 
-  free-now : (t : ℕ) → t < 64
+  pub free-now : (t : ℕ) → t < 64
       → is_free_at now t ≡ cond (is_behind states leaders at t) true (cond (t == at) true (is_free_at states t))
   free-now t below = ap is_free_state (state-now t below) ∙ inside (is_behind states leaders at t) (t == at) (slice_index_or states t state.Free)
     where
@@ -433,13 +433,13 @@ module _ (states : List TagState) (claims : List Claim) (leaders groups : List �
 -- ---- as they are claimed
 
 -- one tag
+pub single : (o : Option ℕ) → o ≡ leader_in (option_map (λ (t : ℕ). t ∷ []) o)
+single None = refl
+single (Some t) = refl
+
 pub leader-one : (slots : List Slot) (count : ℕ) (tag : Option ℕ) → count ≡ 1 → tag ≡ free_slot slots → tag ≡ leader_in (claimed count slots)
 leader-one slots count tag one found =
     found ∙ single (free_slot slots) ∙ sym (ap leader_in (ap (λ (n : ℕ). claimed n slots) one ∙ claimed-one slots))
-  where
-    single : (o : Option ℕ) → o ≡ leader_in (option_map (λ (t : ℕ). t ∷ []) o)
-    single None = refl
-    single (Some t) = refl
 
 pub taken-one : (slots now : List Slot) (claim : Claim) (count : ℕ) (tag : Option ℕ) → count ≡ 1 → tag ≡ free_slot slots
     → IfSome tag (λ t. now ≡ set slots t (Used (command_of claim t) Taken))
@@ -458,13 +458,6 @@ pub its-leader : (mask leader : ℕ) (found rest : List ℕ) → found ≡ tags_
 its-leader mask leader found rest are is there =
     sym (among-tags_in mask leader there) ∙ ap (λ (xs : List ℕ). is_among xs leader) (sym are ∙ is)
     ∙ ap (λ (b : Bool). b || is_among rest leader) (eq-eqb leader leader refl)
-
--- the tags of a mask are those that are claimed
-pub claimed-mask : (states : List TagState) (claims : List Claim) (leaders groups : List ℕ) → AreKept states claims leaders groups
-    → (slots : List Slot) → slots_of states claims leaders ≡ slots → (count : ℕ)
-    → lowest count (free_states states) ≡ claimed count slots
-claimed-mask states claims leaders groups kept slots seen count =
-    sym (ap (lowest count) (free_slots-is states claims leaders groups kept)) ∙ ap (claimed count) seen
 
 pub same-some : (a b : List ℕ) → Some a ≡ Some b → a ≡ b
 same-some a b e = (cc)

@@ -40,6 +40,11 @@ is_ended (Used command Taken) = false
 is_ended (Used command Flying) = false
 is_ended (Used command (Ended st)) = true
 
+-- whether a tag is one of a command of that guest
+abbrev pub is_of : (guest : ℕ) → Slot → Bool
+is_of guest Free = false
+is_of guest (Used command point) = command.guest == guest
+
 -- the lowest free tag
 abbrev pub free_slot : List Slot → Option ℕ
 free_slot slots = position is_free slots

@@ -8,15 +8,17 @@
 //! It goes by the lowest of them, its leader; the tags that go by one leader are its [`Tags::group`], which [`Tags::release_group`] frees at
 //! once. A command of one tag is its own leader, and costs nothing for it. Nothing here takes memory.
 //!
-//! States and commands of tags are in separate arrays, so that the search for a free tag reads states alone. The further tags of a command are a
-//! mask of 64 bits with its leader, so no search is needed for them. The tags whose commands were taken, and no more, and those whose commands have ended
-//! are a mask each, too ([`Tags::taken`], [`Tags::ended`]): whoever plans or completes commands looks at these tags alone. It is a crate of its own because it knows nothing of plans: transcripts, plans
-//! and slots of rings are kept in `nv_core`.
+//! States and commands of tags are in separate arrays. What is looked for is a mask of 64 bits each, so that no search goes over the states: the free
+//! tags, of which a claim takes the lowest; the further tags of a command, with its leader; the tags whose commands were taken, and no more, and those
+//! whose commands have ended ([`Tags::taken`], [`Tags::ended`]), at which alone whoever plans or completes commands looks; and the tags that each guest's
+//! commands have, for guests from 0 to 15, which [`Tags::held`] counts at once for whoever shares the tags out fairly. It is a crate of its own because
+//! it knows nothing of plans: transcripts, plans and slots of rings are kept in `nv_core`.
 #![tactic(auto)]
 
 mod claim;
 mod group;
 pub mod laws;
+mod owned;
 mod several;
 mod state;
 mod tags;

@@ -1,33 +1,27 @@
 //! Several tags at once.
 
-ghost use Rattle.std.specs.Prelude.{◌≡◌, ◌<◌, length, option_map};
-ghost use Rattle.nv_world_model.specs.Area.{tag_count};
-ghost use Rattle.nv_tags.specs.Kept.{free_states, tags_in};
+ghost use Rattle.std.specs.Prelude.{◌≡◌, length, option_map};
+ghost use Rattle.nv_world_model.specs.SetUp.{most_guests};
+ghost use Rattle.nv_tags.specs.Kept.{AreWithoutEach, tags_in};
 ghost use Rattle.nv_tags.specs.Tags.{lowest, set_each};
 ghost use Rattle.nv_tags.specs.declared.state.TagState.TheVariants as state;
 
 use crate::claim::Claim;
 use crate::group::{Group, with};
+use crate::owned::{GUEST_COUNT, disown};
 use crate::state::TagState;
-use nv_model::limits::{TAG_COUNT, TAGS};
+use nv_model::limits::TAG_COUNT;
 
-/// The `count` lowest free tags, a bit for each; `None` where fewer are free.
-pub(crate) fn lowest_free_mask(states: &[TagState; TAG_COUNT], count: u8) -> Option<u64>
-    requires { 0 < count }
-    ensures { option_map tags_in result ≡ lowest count (free_states states.now) }
+/// The `count` lowest tags of a mask, a bit for each; `None` where it has fewer.
+pub(crate) fn lowest_mask(mask: u64, count: u8) -> Option<u64>
+    ensures { option_map tags_in result ≡ lowest count (tags_in mask) }
 {
-    let mut mask = 0;
-    let mut left = count;
-    for tag in 0..TAGS {
-        if states[usize::from(tag)].is_free() {
-            mask = with(mask, tag);
-            left -= 1;
-            if left == 0 {
-                return Some(mask);
-            }
-        }
+    let mut left = Group::of(mask);
+    let mut found = 0;
+    for _tag in 0..count {
+        found = with(found, left.pop()?);
     }
-    None
+    Some(found)
 }
 
 /// Each of these tags is that command's, which was taken and goes by that leader.
@@ -52,12 +46,21 @@ pub(crate) fn take_each(
     }
 }
 
-/// Each of these tags is free.
-pub(crate) fn free_each(states: &mut [TagState; TAG_COUNT], tags: Group)
-    ensures { states.new ≡ set_each tags state.Free states.old }
+/// Each of these tags is free, and no more one of the guest that its claim names.
+pub(crate) fn free_each(
+    states: &mut [TagState; TAG_COUNT],
+    owned: &mut [u64; GUEST_COUNT],
+    claims: &[Claim; TAG_COUNT],
+    tags: Group,
+)
+    ensures states { states.new ≡ set_each tags state.Free states.old }
+    ensures size { length owned.new ≡ most_guests }
+    ensures owned { AreWithoutEach owned.old claims.now tags owned.new }
 {
     let mut left = tags;
     while let Some(tag) = left.pop() {
-        states[usize::from(tag)] = TagState::Free;
+        let at = usize::from(tag);
+        states[at] = TagState::Free;
+        disown(owned, claims[at].guest, tag);
     }
 }

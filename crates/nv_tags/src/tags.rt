@@ -1,15 +1,16 @@
 //! A lane's tags.
 
-ghost use Rattle.std.specs.Prelude.{◌≡◌, ◌≢◌, ◌<◌, ◌⊎◌, ℕ, List, replicate, slice_set, Some, None, IfSome, is_some};
-ghost use Rattle.std.specs.List.{position};
+ghost use Rattle.std.specs.Prelude.{◌≡◌, ◌≢◌, ◌<◌, ◌⊎◌, ℕ, List, length, replicate, slice_set, Some, None, IfSome, is_some};
 ghost use Rattle.nv_world_model.specs.Area.{tag_count};
-ghost use Rattle.nv_tags.specs.Tags.{Ended, Flying, Free, Taken, Used, claimed, command_in, command_of, free_slot, group, is_free_state};
-ghost use Rattle.nv_tags.specs.Tags.{Leads, is_ended, is_taken, leader_in, leader_of, released, slot_at, state_at, tags_where, taken_by, with_point};
+ghost use Rattle.nv_world_model.specs.SetUp.{most_guests};
+ghost use Rattle.nv_tags.specs.Tags.{Ended, Flying, Free, Taken, Used, claimed, command_in, command_of, free_slot, group};
+ghost use Rattle.nv_tags.specs.Tags.{Leads, is_ended, is_of, is_taken, leader_in, leader_of, released, slot_at, state_at, tags_where, taken_by, with_point};
 ghost use Rattle.nv_tags.specs.declared.state.TagState.TheVariants as state;
 
 use crate::claim::Claim;
 use crate::group::{Group, with, without};
-use crate::several::{free_each, lowest_free_mask, take_each};
+use crate::owned::{GUEST_COUNT, disown, own};
+use crate::several::{free_each, lowest_mask, take_each};
 use crate::state::TagState;
 use nv_entry::{Sqe, Status};
 use nv_model::limits::TAG_COUNT;
@@ -24,29 +25,27 @@ pub struct Tags {
     leaders: [u8; TAG_COUNT],
     // for each tag, those that follow it in the group that goes by it, a bit for each
     groups: [u64; TAG_COUNT],
+    // the free tags, a bit for each
+    free: u64,
     // the tags whose commands were taken, and no more, a bit for each
     taken: u64,
     // the tags whose commands have ended, a bit for each
     ended: u64,
+    // for each guest from 0 to 15, the tags that its commands have, a bit for each
+    owned: [u64; GUEST_COUNT],
 }
 
 impl Model for Tags {
     ghost use Rattle.std.specs.Prelude.{List};
-    ghost use Rattle.nv_tags.specs.Kept.{AreKept, AreMarked, slots_of};
+    ghost use Rattle.nv_tags.specs.Kept.{AreKept, AreMarked, AreOwned, slots_of};
     ghost use Rattle.nv_tags.specs.Tags.{Slot};
 
     ghost Value = { List Slot };
 
     ghost view = { λ t. slots_of t.states t.claims t.leaders };
 
-    ghost invariant = { λ t. AreKept t.states t.claims t.leaders t.groups × AreMarked t.states t.taken t.ended };
-}
-
-// the place of the first free state
-fn lowest_free(states: &[TagState; TAG_COUNT]) -> Option<usize>
-    ensures { result ≡ position is_free_state states.now }
-{
-    states.iter().position(|state| state.is_free())
+    ghost invariant = { λ t. AreKept t.states t.claims t.leaders t.groups × AreMarked t.states t.free t.taken t.ended
+        × AreOwned (slots_of t.states t.claims t.leaders) t.owned };
 }
 
 impl Tags {
@@ -64,8 +63,10 @@ impl Tags {
             claims: [nobodys; TAG_COUNT],
             leaders: [0; TAG_COUNT],
             groups: [0; TAG_COUNT],
+            free: u64::MAX,
             taken: 0,
             ended: 0,
+            owned: [0; GUEST_COUNT],
         }
     }
 
@@ -73,7 +74,7 @@ impl Tags {
     pub fn has_free(&self) -> bool
         ensures { result ≡ is_some (free_slot self.now) }
     {
-        lowest_free(&self.states).is_some()
+        self.free != 0
     }
 
     /// Whether so many tags are free: whether [`Tags::claim_group`] would give them.
@@ -81,7 +82,7 @@ impl Tags {
         requires { 0 < count }
         ensures { result ≡ is_some (claimed count self.now) }
     {
-        lowest_free_mask(&self.states, count).is_some()
+        self.free.count_ones() >= u32::from(count)
     }
 
     /// Gives the command the lowest free tag, which it goes by; `None`, with nothing changed, where no tag is free.
@@ -90,12 +91,16 @@ impl Tags {
         ensures some { IfSome result (λ tag. self.new ≡ slice_set self.old tag (Used (command_of claim tag) Taken)) }
         ensures none { result ≡ None → self.new ≡ self.old }
     {
-        let tag = lowest_free(&self.states)?;
-        self.states[tag] = TagState::Taken;
-        self.claims[tag] = claim;
-        self.leaders[tag] = tag as u8;
-        self.taken = with(self.taken, tag as u8);
-        Some(tag as u8)
+        let guest = claim.guest;
+        let tag = Group::of(self.free).pop()?;
+        let at = usize::from(tag);
+        self.states[at] = TagState::Taken;
+        self.claims[at] = claim;
+        self.leaders[at] = tag;
+        self.free = without(self.free, tag);
+        self.taken = with(self.taken, tag);
+        own(&mut self.owned, guest, with(0, tag));
+        Some(tag)
     }
 
     /// Gives the command the `count` lowest free tags, all at once. It goes by the lowest of them, which is the result; `None`, with nothing
@@ -110,7 +115,7 @@ impl Tags {
         if count == 1 {
             return self.claim(claim);
         }
-        let mask = lowest_free_mask(&self.states, count)?;
+        let mask = lowest_mask(self.free, count)?;
         let Some(leader) = Group::of(mask).pop() else {
             unreachable!()
         };
@@ -123,7 +128,9 @@ impl Tags {
             leader,
         );
         self.groups[usize::from(leader)] |= without(mask, leader);
+        self.free &= !mask;
         self.taken |= mask;
+        own(&mut self.owned, claim.guest, mask);
         Some(leader)
     }
 
@@ -168,6 +175,14 @@ impl Tags {
         Group::of(self.ended)
     }
 
+    /// How many tags the commands of a guest, 0 to 15, have: 0 to 64.
+    pub fn held(&self, guest: u8) -> u8
+        requires { guest < most_guests }
+        ensures { result ≡ length (tags_where (is_of guest) self.now) }
+    {
+        self.owned[usize::from(guest)].count_ones() as u8
+    }
+
     /// Where the tag, 0 to 63, is.
     pub fn state(&self, tag: u8) -> TagState
         requires there { tag < tag_count }
@@ -203,8 +218,11 @@ impl Tags {
         let leader = usize::from(self.leaders[usize::from(tag)]);
         self.groups[leader] = without(self.groups[leader], tag);
         self.states[usize::from(tag)] = TagState::Free;
+        self.free = with(self.free, tag);
         self.taken = without(self.taken, tag);
         self.ended = without(self.ended, tag);
+        let guest = self.claims[usize::from(tag)].guest;
+        disown(&mut self.owned, guest, tag);
     }
 
     /// The tags of a command that goes by this tag become free, all at once.
@@ -215,8 +233,16 @@ impl Tags {
         let at = usize::from(leader);
         let freed = with(self.groups[at], leader);
         self.states[at] = TagState::Free;
-        free_each(&mut self.states, Group::of(self.groups[at]));
+        let guest = self.claims[at].guest;
+        disown(&mut self.owned, guest, leader);
+        free_each(
+            &mut self.states,
+            &mut self.owned,
+            &self.claims,
+            Group::of(self.groups[at]),
+        );
         self.groups[at] = 0;
+        self.free |= freed;
         self.taken &= !freed;
         self.ended &= !freed;
     }

@@ -1,7 +1,7 @@
 use Rattle.std.proofs.Common.{◌∙◌, ap, arith, get_or, inl, inr, refl}
 use Rattle.std.proofs.lemmas.Result.{err_from_is_err_and}
 use Rattle.nv_c.specs.Tables.{all_given, given, setup_of}
-use Rattle.nv_c.proofs.Tables.{given_at, given_count, given_next, too_many, too_many_hosted}
+use Rattle.nv_c.proofs.Tables.{given_at, given_count, given_next, too_many, too_many_serving}
 use Rattle.nv_mediator.specs.Refused.{refused}
 use Rattle.nv_mediator.specs.declared.refusal.Refusal.TheVariants as refusal
 use Rattle.nv_c.proofs.setup.setup_of.Goals as goal
@@ -47,7 +47,7 @@ returns-then-limits-gt-MOST_GUESTS-clause-host c =
     inr (inr (
       refusal.TooManyGuests,
       ap refused
-          (too_many_hosted (setup_of c.args.sizes.now c.args.limits.now c.args.regions.now c.args.extents.now) (omega (arith, more, count))),
+          (too_many_serving (setup_of c.args.sizes.now c.args.limits.now c.args.regions.now c.args.extents.now) (omega (arith, more, count))),
       refl,
     ))
 

@@ -1,6 +1,7 @@
 use Rattle.std.proofs.Common.{◌≡◌, length}
 use Rattle.nv_tags.specs.Tags.{set_each}
 use Rattle.nv_tags.specs.declared.state.TagState.TheVariants as state
+use Rattle.nv_tags.proofs.Owners.{AreGoing}
 use Rattle.nv_tags.proofs.several.free_each.Given as goal
 
 -- the tags that are left, freed from here, are all tags freed from the start
@@ -8,7 +9,9 @@ abbrev pub invariant-loop-tag : goal.invariant-loop-tag
 invariant-loop-tag l =
     record {
       size : length l.states ≡ 64;
+      owned_are : length l.owned ≡ 16;
       goes : set_each l.left state.Free l.states ≡ set_each l.initial.left state.Free l.initial.states;
+      owned_go : AreGoing l.left l.claims l.owned l.initial.left l.initial.owned;
     }
 
 abbrev pub decreases-loop-tag : goal.decreases-loop-tag

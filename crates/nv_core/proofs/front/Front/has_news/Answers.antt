@@ -1,13 +1,25 @@
-use Rattle.std.proofs.Common.{◌≡◌, ◌∙◌, ◌∷◌, ℕ, List, [], Option, None, Some, MatchOption, false, is_some, sym}
+use Rattle.std.proofs.Common.{◌≡◌, ◌∙◌, ◌∷◌, ◌||◌, ℕ, List, [], Bool, Option, None, Some, MatchOption, true, false, is_some, length, nat_lt, slice_get, arith, ap, refl, sym}
+use Rattle.std.proofs.lemmas.Bool.{lt-ltb}
+use Rattle.nv_core.specs.Reaping.{waits_in}
+use Rattle.nv_core.specs.Tags.{ended_in}
 use Rattle.nv_core.proofs.front.Front.has_news.Goals as goal
 
-none-there : (o : Option ℕ) (all left : List ℕ) → is_some o ≡ false → MatchOption o (all ≡ []) (λ t. all ≡ t ∷ left) → all ≡ []
-none-there None all left isnt none = none
-none-there (Some t) all left isnt some = cc
+-- whether there was a first
+found : (o : Option ℕ) (all left : List ℕ) → MatchOption o (all ≡ []) (λ t. all ≡ t ∷ left) → nat_lt 0 (length all) ≡ is_some o
+found None all left none = ap (λ (xs : List ℕ). nat_lt 0 (length xs)) none
+found (Some t) all left some = ap (λ (xs : List ℕ). nat_lt 0 (length xs)) some ∙ lt-ltb 0 (length (t ∷ left)) (omega arith)
 
-pub returns-clause-waits : goal.returns-clause-waits
-returns-clause-waits g c = λ no. sym c.reap_due.ensures.answer ∙ no
+pub returns-then-is_some : goal.returns-then-is_some
+returns-then-is_some g c =
+    let some : nat_lt 0 (length (ended_in (slice_get c.args.self.now.lanes c.args.lane))) ≡ true =
+    sym (ap (λ (xs : List ℕ). nat_lt 0 (length xs)) c.ended-ended.ensures)
+    ∙ found c.pop.result c.ended-ended.result c.pop.new.self c.pop.ensures.lowest ∙ sym c.is_some.ensures ∙ c.if-is_some.true in
+    sym (ap (λ (b : Bool). b || waits_in c.args.layout.now c.args.lane (slice_get c.args.self.now.lanes c.args.lane) (g.C.MemoryCell.bytes c.args.host.now)) some)
 
-pub returns-clause-ended : goal.returns-clause-ended
-returns-clause-ended g c = λ no.
-    sym c.ended-ended.ensures ∙ none-there c.pop.result c.ended-ended.result c.pop.new.self (sym c.is_some.ensures ∙ c.if-is_some.false) c.pop.ensures.lowest
+pub returns : goal.returns
+returns g c =
+    let none : nat_lt 0 (length (ended_in (slice_get c.args.self.now.lanes c.args.lane))) ≡ false =
+    sym (ap (λ (xs : List ℕ). nat_lt 0 (length xs)) c.ended-ended.ensures)
+    ∙ found c.pop.result c.ended-ended.result c.pop.new.self c.pop.ensures.lowest ∙ sym c.is_some.ensures ∙ c.if-is_some.false in
+    c.reap_due.ensures.answer
+    ∙ sym (ap (λ (b : Bool). b || waits_in c.args.layout.now c.args.lane (slice_get c.args.self.now.lanes c.args.lane) (g.C.MemoryCell.bytes c.args.host.now)) none)

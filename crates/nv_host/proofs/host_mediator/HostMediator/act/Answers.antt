@@ -8,12 +8,12 @@ use Rattle.nv_host.proofs.host_mediator.HostMediator.act.Goals as goal
 
 pub act-requires : goal.act-requires
 act-requires g c =
-    let h = made c.self.inside.host_bytes c.self.inside.lanes c.self.inside.layout c.self.inside.front c.self.inside.closed.items in
+    let h = made c.self.inside.host_bytes c.self.inside.lanes c.self.inside.layout c.self.inside.front c.self.inside.closed.items c.self.inside.spare.items in
     served-lent h c.args.self.now c.self.view_is c.self.invariant (g.C.MemoryCell.bytes c.args.memory.now) c.requires
 
 pub invariant_of-self : goal.invariant_of-self
 invariant_of-self g c =
-    let h = made c.self.inside.host_bytes c.self.inside.lanes c.self.inside.layout c.self.inside.front c.self.inside.closed.items in
+    let h = made c.self.inside.host_bytes c.self.inside.lanes c.self.inside.layout c.self.inside.front c.self.inside.closed.items c.self.inside.spare.items in
     let before : List ℕ = g.C.MemoryCell.bytes c.args.memory.now in
     let after : List ℕ = g.C.MemoryCell.bytes c.act.new.host in
     either-served h c.args.self.now c.self.view_is c.self.invariant (event.Guest c.args.guest c.args.act.now) tt c.act.new.self before after (λ r. r)
@@ -21,7 +21,7 @@ invariant_of-self g c =
 
 pub returns-clause-ok : goal.returns-clause-ok
 returns-clause-ok g c =
-    let h = made c.self.inside.host_bytes c.self.inside.lanes c.self.inside.layout c.self.inside.front c.self.inside.closed.items in
+    let h = made c.self.inside.host_bytes c.self.inside.lanes c.self.inside.layout c.self.inside.front c.self.inside.closed.items c.self.inside.spare.items in
     let before : List ℕ = g.C.MemoryCell.bytes c.args.memory.now in
     let after : List ℕ = g.C.MemoryCell.bytes c.act.new.host in
     either-done h c.args.self.now c.self.view_is c.self.invariant (event.Guest c.args.guest c.args.act.now) tt c.act.new.self before after (λ r. r)

@@ -8,5 +8,5 @@ admin_due-requires c = c.self.invariant.kept
 
 pub returns : goal.returns
 returns c = λ memory.
-    let h = made c.self.inside.host_bytes c.self.inside.lanes c.self.inside.layout c.self.inside.front c.self.inside.closed.items in
+    let h = made c.self.inside.host_bytes c.self.inside.lanes c.self.inside.layout c.self.inside.front c.self.inside.closed.items c.self.inside.spare.items in
     told-beside h c.args.self.now c.self.view_is memory c.admin_due.result (event.Admin c.args.guest) tt (c.admin_due.ensures memory)

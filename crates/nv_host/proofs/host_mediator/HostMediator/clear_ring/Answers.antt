@@ -8,7 +8,7 @@ use Rattle.nv_host.proofs.host_mediator.HostMediator.clear_ring.Goals as goal
 
 pub store-requires : goal.store-requires
 store-requires g c some =
-    let h = made c.self.inside.host_bytes c.self.inside.lanes c.self.inside.layout c.self.inside.front c.self.inside.closed.items in
+    let h = made c.self.inside.host_bytes c.self.inside.lanes c.self.inside.layout c.self.inside.front c.self.inside.closed.items c.self.inside.spare.items in
     let room = lane-inside h c.args.self.now c.self.view_is c.self.invariant c.args.lane c.requires.there in
     let lent = c.requires.lent in
     let at = c.in-Some.ensures.1 in
@@ -16,7 +16,7 @@ store-requires g c some =
 
 pub returns-in-Some-clause-clear : goal.returns-in-Some-clause-clear
 returns-in-Some-clause-clear g c = λ place below.
-    let h = made c.self.inside.host_bytes c.self.inside.lanes c.self.inside.layout c.self.inside.front c.self.inside.closed.items in
+    let h = made c.self.inside.host_bytes c.self.inside.lanes c.self.inside.layout c.self.inside.front c.self.inside.closed.items c.self.inside.spare.items in
     let room = lane-inside h c.args.self.now c.self.view_is c.self.invariant c.args.lane c.requires.there in
     let lent = c.requires.lent in
     let at = c.in-Some.ensures.1 in
@@ -26,7 +26,7 @@ returns-in-Some-clause-clear g c = λ place below.
 
 pub returns-in-Some-clause-alone : goal.returns-in-Some-clause-alone
 returns-in-Some-clause-alone g c =
-    let h = made c.self.inside.host_bytes c.self.inside.lanes c.self.inside.layout c.self.inside.front c.self.inside.closed.items in
+    let h = made c.self.inside.host_bytes c.self.inside.lanes c.self.inside.layout c.self.inside.front c.self.inside.closed.items c.self.inside.spare.items in
     let room = lane-inside h c.args.self.now c.self.view_is c.self.invariant c.args.lane c.requires.there in
     let lent = c.requires.lent in
     let at = c.in-Some.ensures.1 in

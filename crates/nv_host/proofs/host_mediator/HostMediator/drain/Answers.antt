@@ -20,6 +20,7 @@ loop-init g c =
       alone = alone-same c.args.lane c.args.self.now.side;
       setup = refl;
       closed = refl;
+      spare = refl;
     }
 
 pub loop-preserved : goal.loop-preserved
@@ -44,4 +45,5 @@ loop-preserved g c =
       alone = alone-twice c.args.lane c.args.self.now.side c.loop.self.side c.has_reaped.new.self.side so_far.alone c.has_reaped.ensures.alone;
       setup = c.has_reaped.ensures.setup ∙ so_far.setup;
       closed = c.has_reaped.ensures.closed ∙ so_far.closed;
+      spare = c.has_reaped.ensures.spare ∙ so_far.spare;
     }

@@ -15,7 +15,7 @@ use Rattle.nv_host.proofs.host_mediator.HostMediator.fail.Goals as goal
 
 pub returns-then-not-has_reaped-clause-run : goal.returns-then-not-has_reaped-clause-run
 returns-then-not-has_reaped-clause-run g c =
-    let h = made c.self.inside.host_bytes c.self.inside.lanes c.self.inside.layout c.self.inside.front c.self.inside.closed.items in
+    let h = made c.self.inside.host_bytes c.self.inside.lanes c.self.inside.layout c.self.inside.front c.self.inside.closed.items c.self.inside.spare.items in
     let before : List ℕ = g.C.MemoryCell.bytes c.args.memory.now in
     let mid : List ℕ = g.C.MemoryCell.bytes c.put_entry.new.memory in
     let there = lane-there h c.args.self.now c.self.view_is c.self.invariant c.args.lane c.requires.there in
@@ -43,7 +43,7 @@ returns-else-not-has_reaped-clause-each g c =
 
 pub returns-else-not-has_reaped-clause-run : goal.returns-else-not-has_reaped-clause-run
 returns-else-not-has_reaped-clause-run g c =
-    let h = made c.self.inside.host_bytes c.self.inside.lanes c.self.inside.layout c.self.inside.front c.self.inside.closed.items in
+    let h = made c.self.inside.host_bytes c.self.inside.lanes c.self.inside.layout c.self.inside.front c.self.inside.closed.items c.self.inside.spare.items in
     let before : List ℕ = g.C.MemoryCell.bytes c.args.memory.now in
     let mid : List ℕ = g.C.MemoryCell.bytes c.put_entry.new.memory in
     let there = lane-there h c.args.self.now c.self.view_is c.self.invariant c.args.lane c.requires.there in

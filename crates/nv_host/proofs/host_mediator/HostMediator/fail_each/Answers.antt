@@ -21,6 +21,7 @@ loop-tag-init g c =
       ring = ring-same c.args.self.now.setup.geometry c.args.lane (g.C.MemoryCell.bytes c.args.memory.now);
       setup = refl;
       closed = refl;
+      spare = refl;
     }
 
 pub loop-tag-preserved : goal.loop-tag-preserved
@@ -39,10 +40,11 @@ loop-tag-preserved g c =
           (subst (λ (s : SetUp). IsRingAlone s.geometry c.args.lane between after) so_far.setup c.fail.ensures.ring);
       setup = c.fail.ensures.setup ∙ so_far.setup;
       closed = c.fail.ensures.closed ∙ so_far.closed;
+      spare = c.fail.ensures.spare ∙ so_far.spare;
     }
 
 pub returns-clause-each : goal.returns-clause-each
 returns-clause-each g c =
-    let h = made c.self.inside.host_bytes c.self.inside.lanes c.self.inside.layout c.self.inside.front c.self.inside.closed.items in
+    let h = made c.self.inside.host_bytes c.self.inside.lanes c.self.inside.layout c.self.inside.front c.self.inside.closed.items c.self.inside.spare.items in
     all-failed c.args.self.now.setup.geometry c.loop-tag.tag c.args.lane c.args.self.now.side c.loop-tag.self.side
     (subst (λ (x : Served). IsKept x.setup.geometry x.side) c.self.view_is c.self.invariant.kept) c.loop-tag-test.false c.loop-tag.invariant.each

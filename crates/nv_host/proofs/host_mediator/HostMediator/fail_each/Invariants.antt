@@ -13,4 +13,5 @@ invariant-loop-tag g l =
       ring : IsRingAlone l.fn.self.setup.geometry l.fn.lane (g.C.MemoryCell.bytes l.fn.memory) (g.C.MemoryCell.bytes l.memory);
       setup : l.self.setup ≡ l.fn.self.setup;
       closed : l.self.closed ≡ l.fn.self.closed;
+      spare : l.self.spare ≡ l.fn.self.spare;
     }

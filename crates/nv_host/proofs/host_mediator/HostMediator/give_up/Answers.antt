@@ -10,13 +10,13 @@ give_up-requires c = c.self.invariant.kept
 
 pub invariant_of-self : goal.invariant_of-self
 invariant_of-self c =
-    let h = made c.self.inside.host_bytes c.self.inside.lanes c.self.inside.layout c.self.inside.front c.self.inside.closed.items in
+    let h = made c.self.inside.host_bytes c.self.inside.lanes c.self.inside.layout c.self.inside.front c.self.inside.closed.items c.self.inside.spare.items in
     let zeros : List ℕ = replicate c.args.self.now.setup.host_bytes 0 in
     call-served h c.args.self.now c.self.view_is c.self.invariant (event.GiveUp c.args.lane c.args.tag) tt c.give_up.new.self zeros zeros c.give_up.result
     (c.give_up.ensures.step zeros) (many-same h.side c.give_up.new.self c.give_up.ensures.tails) refl (length-replicate c.args.self.now.setup.host_bytes 0)
 
 pub returns : goal.returns
 returns c = λ memory.
-    let h = made c.self.inside.host_bytes c.self.inside.lanes c.self.inside.layout c.self.inside.front c.self.inside.closed.items in
+    let h = made c.self.inside.host_bytes c.self.inside.lanes c.self.inside.layout c.self.inside.front c.self.inside.closed.items c.self.inside.spare.items in
     call-done h c.args.self.now c.self.view_is c.self.invariant (event.GiveUp c.args.lane c.args.tag) tt c.give_up.new.self memory memory c.give_up.result
     (c.give_up.ensures.step memory) (many-same h.side c.give_up.new.self c.give_up.ensures.tails) refl

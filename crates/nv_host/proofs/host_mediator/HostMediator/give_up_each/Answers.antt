@@ -17,6 +17,7 @@ loop-tag-init c =
       alone = alone-same c.args.lane c.args.self.now.side;
       setup = refl;
       closed = refl;
+      spare = refl;
     }
 
 pub loop-tag-preserved : goal.loop-tag-preserved
@@ -32,10 +33,11 @@ loop-tag-preserved c =
       alone = alone-twice c.args.lane c.args.self.now.side c.loop-tag.self.side c.give_up_led.new.self.side so_far.alone c.give_up_led.ensures.alone;
       setup = c.give_up_led.ensures.setup ∙ so_far.setup;
       closed = c.give_up_led.ensures.closed ∙ so_far.closed;
+      spare = c.give_up_led.ensures.spare ∙ so_far.spare;
     }
 
 pub returns-clause-each : goal.returns-clause-each
 returns-clause-each c =
-    let h = made c.self.inside.host_bytes c.self.inside.lanes c.self.inside.layout c.self.inside.front c.self.inside.closed.items in
+    let h = made c.self.inside.host_bytes c.self.inside.lanes c.self.inside.layout c.self.inside.front c.self.inside.closed.items c.self.inside.spare.items in
     all-given c.args.self.now.setup.geometry c.loop-tag.tag c.args.lane c.args.self.now.side c.loop-tag.self.side
     (subst (λ (x : Served). IsKept x.setup.geometry x.side) c.self.view_is c.self.invariant.kept) c.loop-tag-test.false c.loop-tag.invariant.each

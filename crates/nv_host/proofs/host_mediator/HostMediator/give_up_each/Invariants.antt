@@ -12,4 +12,5 @@ invariant-loop-tag l =
       alone : IsLaneAlone l.fn.lane l.fn.self.side l.self.side;
       setup : l.self.setup ≡ l.fn.self.setup;
       closed : l.self.closed ≡ l.fn.self.closed;
+      spare : l.self.spare ≡ l.fn.self.spare;
     }

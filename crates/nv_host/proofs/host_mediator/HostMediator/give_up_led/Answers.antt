@@ -12,26 +12,26 @@ use Rattle.nv_host.proofs.host_mediator.HostMediator.give_up_led.Goals as goal
 
 pub invariant_of-self : goal.invariant_of-self
 invariant_of-self c =
-    let h = made c.self.inside.host_bytes c.self.inside.lanes c.self.inside.layout c.self.inside.front c.self.inside.closed.items in
+    let h = made c.self.inside.host_bytes c.self.inside.lanes c.self.inside.layout c.self.inside.front c.self.inside.closed.items c.self.inside.spare.items in
     let zeros : List ℕ = replicate c.args.self.now.setup.host_bytes 0 in
     call-served h c.args.self.now c.self.view_is c.self.invariant (event.GiveUp c.args.lane c.args.tag) tt c.give_up-told.new.self zeros zeros c.give_up-told.result
     (c.give_up-told.ensures.step zeros) (many-same h.side c.give_up-told.new.self c.give_up-told.ensures.tails) refl (length-replicate c.args.self.now.setup.host_bytes 0)
 
 pub returns-clause-each : goal.returns-clause-each
 returns-clause-each c =
-    let h = made c.self.inside.host_bytes c.self.inside.lanes c.self.inside.layout c.self.inside.front c.self.inside.closed.items in
+    let h = made c.self.inside.host_bytes c.self.inside.lanes c.self.inside.layout c.self.inside.front c.self.inside.closed.items c.self.inside.spare.items in
     subst (λ (x : Served). AreEach (given_up_by c.args.tag) c.args.lane x.side c.give_up-told.new.self) c.self.view_is
     (gives-each h.setup.geometry c.args.lane c.args.tag h.side c.give_up-told.new.self [] c.give_up-told.result (c.give_up-told.ensures.step []) c.self.invariant.kept)
 
 pub returns-clause-alone : goal.returns-clause-alone
 returns-clause-alone c =
-    let h = made c.self.inside.host_bytes c.self.inside.lanes c.self.inside.layout c.self.inside.front c.self.inside.closed.items in
+    let h = made c.self.inside.host_bytes c.self.inside.lanes c.self.inside.layout c.self.inside.front c.self.inside.closed.items c.self.inside.spare.items in
     subst (λ (x : Served). IsLaneAlone c.args.lane x.side c.give_up-told.new.self) c.self.view_is
     (gives-alone h.setup.geometry c.args.lane c.args.tag h.side c.give_up-told.new.self [] c.give_up-told.result (c.give_up-told.ensures.step []) c.give_up-told.ensures.tails)
 
 pub returns-clause-run : goal.returns-clause-run
 returns-clause-run c = λ memory.
-    let h = made c.self.inside.host_bytes c.self.inside.lanes c.self.inside.layout c.self.inside.front c.self.inside.closed.items in
+    let h = made c.self.inside.host_bytes c.self.inside.lanes c.self.inside.layout c.self.inside.front c.self.inside.closed.items c.self.inside.spare.items in
     let zeros : List ℕ = replicate c.args.self.now.setup.host_bytes 0 in
     let lent = served-lent h c.args.self.now c.self.view_is c.self.invariant zeros (length-replicate c.args.self.now.setup.host_bytes 0) in
     subst (λ (x : Served). IsIdleRun x.setup.geometry c.args.lane x.side memory c.give_up-told.new.self memory) c.self.view_is

@@ -7,19 +7,19 @@ use Rattle.nv_host.proofs.host_mediator.HostMediator.list.Goals as goal
 
 pub list-requires : goal.list-requires
 list-requires g c =
-    let h = made c.self.inside.host_bytes c.self.inside.lanes c.self.inside.layout c.self.inside.front c.self.inside.closed.items in
+    let h = made c.self.inside.host_bytes c.self.inside.lanes c.self.inside.layout c.self.inside.front c.self.inside.closed.items c.self.inside.spare.items in
     served-lent h c.args.self.now c.self.view_is c.self.invariant (g.C.MemoryCell.bytes c.args.memory.now) c.requires
 
 pub invariant_of-self : goal.invariant_of-self
 invariant_of-self g c =
-    let h = made c.self.inside.host_bytes c.self.inside.lanes c.self.inside.layout c.self.inside.front c.self.inside.closed.items in
+    let h = made c.self.inside.host_bytes c.self.inside.lanes c.self.inside.layout c.self.inside.front c.self.inside.closed.items c.self.inside.spare.items in
     let before : List ℕ = g.C.MemoryCell.bytes c.args.memory.now in
     let after : List ℕ = g.C.MemoryCell.bytes c.args.memory.now in
     either-served h c.args.self.now c.self.view_is c.self.invariant (event.List c.args.lane c.args.tag c.args.addr c.args.len) tt c.list.new.self before after (λ told. told.0) (c.list.new.self ≡ c.self.inside.front) (many-same h.side c.list.new.self c.list.ensures.tails) refl c.list.result c.list.ensures.ok c.list.ensures.err (λ failed. failed) c.requires
 
 pub returns-clause-ok : goal.returns-clause-ok
 returns-clause-ok g c =
-    let h = made c.self.inside.host_bytes c.self.inside.lanes c.self.inside.layout c.self.inside.front c.self.inside.closed.items in
+    let h = made c.self.inside.host_bytes c.self.inside.lanes c.self.inside.layout c.self.inside.front c.self.inside.closed.items c.self.inside.spare.items in
     let before : List ℕ = g.C.MemoryCell.bytes c.args.memory.now in
     let after : List ℕ = g.C.MemoryCell.bytes c.args.memory.now in
     either-done h c.args.self.now c.self.view_is c.self.invariant (event.List c.args.lane c.args.tag c.args.addr c.args.len) tt c.list.new.self before after (λ told. told.0) (c.list.new.self ≡ c.self.inside.front) (many-same h.side c.list.new.self c.list.ensures.tails) refl c.list.result c.list.ensures.ok

@@ -10,12 +10,12 @@ use Rattle.nv_host.proofs.host_mediator.HostMediator.load.Goals as goal
 
 pub load-requires : goal.load-requires
 load-requires g c =
-    let h = made c.self.inside.host_bytes c.self.inside.lanes c.self.inside.layout c.self.inside.front c.self.inside.closed.items in
+    let h = made c.self.inside.host_bytes c.self.inside.lanes c.self.inside.layout c.self.inside.front c.self.inside.closed.items c.self.inside.spare.items in
     served-lent h c.args.self.now c.self.view_is c.self.invariant (g.C.MemoryCell.bytes c.args.memory.now) c.requires
 
 pub returns : goal.returns
 returns g c =
-    let h = made c.self.inside.host_bytes c.self.inside.lanes c.self.inside.layout c.self.inside.front c.self.inside.closed.items in
+    let h = made c.self.inside.host_bytes c.self.inside.lanes c.self.inside.layout c.self.inside.front c.self.inside.closed.items c.self.inside.spare.items in
     let before : List ℕ = g.C.MemoryCell.bytes c.args.memory.now in
     let e : Event = event.Guest c.args.guest (act.Load c.args.addr (length c.args.room.now)) in
     loaded-so _ _

@@ -7,7 +7,7 @@ use Rattle.nv_host.proofs.host_mediator.HostMediator.next_slot.Goals as goal
 
 pub overflow_add-result : goal.overflow_add-result
 overflow_add-result c =
-    let h = made c.self.inside.host_bytes c.self.inside.lanes c.self.inside.layout c.self.inside.front c.self.inside.closed.items in
+    let h = made c.self.inside.host_bytes c.self.inside.lanes c.self.inside.layout c.self.inside.front c.self.inside.closed.items c.self.inside.spare.items in
     let ring : c.unwrap_or-ring.result ≡ completion_slot c.args.self.now.setup.geometry.mediator c.args.lane 0 =
     c.unwrap_or-ring.ensures
     ∙ ring-start c.completion_ring.result c.args.self.now.setup.lanes c.args.lane (completion_slot c.args.self.now.setup.geometry.mediator c.args.lane 0)
@@ -21,7 +21,7 @@ overflow_add-result c =
 
 pub returns-clause-inside : goal.returns-clause-inside
 returns-clause-inside c =
-    let h = made c.self.inside.host_bytes c.self.inside.lanes c.self.inside.layout c.self.inside.front c.self.inside.closed.items in
+    let h = made c.self.inside.host_bytes c.self.inside.lanes c.self.inside.layout c.self.inside.front c.self.inside.closed.items c.self.inside.spare.items in
     let ring : c.unwrap_or-ring.result ≡ completion_slot c.args.self.now.setup.geometry.mediator c.args.lane 0 =
     c.unwrap_or-ring.ensures
     ∙ ring-start c.completion_ring.result c.args.self.now.setup.lanes c.args.lane (completion_slot c.args.self.now.setup.geometry.mediator c.args.lane 0)
@@ -35,7 +35,7 @@ returns-clause-inside c =
 
 pub returns-clause-high : goal.returns-clause-high
 returns-clause-high c =
-    let h = made c.self.inside.host_bytes c.self.inside.lanes c.self.inside.layout c.self.inside.front c.self.inside.closed.items in
+    let h = made c.self.inside.host_bytes c.self.inside.lanes c.self.inside.layout c.self.inside.front c.self.inside.closed.items c.self.inside.spare.items in
     let ring : c.unwrap_or-ring.result ≡ completion_slot c.args.self.now.setup.geometry.mediator c.args.lane 0 =
     c.unwrap_or-ring.ensures
     ∙ ring-start c.completion_ring.result c.args.self.now.setup.lanes c.args.lane (completion_slot c.args.self.now.setup.geometry.mediator c.args.lane 0)

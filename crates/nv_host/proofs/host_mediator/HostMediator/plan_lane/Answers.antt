@@ -15,7 +15,7 @@ pub loop-tag-init : goal.loop-tag-init
 loop-tag-init g c =
     let a : Scene = scene c.args.self.now (g.C.MemoryCell.bytes c.args.memory.now) in
     record
-    { search = search-none scope.All c.args.most c.taken-taken.result (λ (s : Scene) (k : ℕ). NothingWaitsAt s c.args.lane k) a (λ k out. not-taken a c.args.lane k (among-same (λ (x : Side). taken_in (slice_get x.lanes c.args.lane)) c.self.inside.front c.args.self.now (made c.self.inside.host_bytes c.self.inside.lanes c.self.inside.layout c.self.inside.front c.self.inside.closed.items) c.self.view_is refl c.taken-taken.result c.taken-taken.ensures k out)); setup = refl; len = refl }
+    { search = search-none scope.All c.args.most c.taken-taken.result (λ (s : Scene) (k : ℕ). NothingWaitsAt s c.args.lane k) a (λ k out. not-taken a c.args.lane k (among-same (λ (x : Side). taken_in (slice_get x.lanes c.args.lane)) c.self.inside.front c.args.self.now (made c.self.inside.host_bytes c.self.inside.lanes c.self.inside.layout c.self.inside.front c.self.inside.closed.items c.self.inside.spare.items) c.self.view_is refl c.taken-taken.result c.taken-taken.ensures k out)); setup = refl; len = refl }
 
 pub returns-then-done-turn-clause-pass : goal.returns-then-done-turn-clause-pass
 returns-then-done-turn-clause-pass g c =

@@ -8,5 +8,5 @@ post_due-requires c = c.self.invariant.kept
 
 pub returns : goal.returns
 returns c = λ memory.
-    let h = made c.self.inside.host_bytes c.self.inside.lanes c.self.inside.layout c.self.inside.front c.self.inside.closed.items in
+    let h = made c.self.inside.host_bytes c.self.inside.lanes c.self.inside.layout c.self.inside.front c.self.inside.closed.items c.self.inside.spare.items in
     told-beside h c.args.self.now c.self.view_is memory c.post_due.result (event.Post c.args.lane c.args.tag) tt (c.post_due.ensures memory)

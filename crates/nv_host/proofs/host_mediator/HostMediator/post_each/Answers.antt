@@ -13,7 +13,7 @@ pub loop-tag-init : goal.loop-tag-init
 loop-tag-init g c =
     let a : Scene = scene c.args.self.now (g.C.MemoryCell.bytes c.args.memory.now) in
     record
-    { search = search-none (scope.Lane c.args.lane) c.args.most c.ended-ended.result (λ (s : Scene) (k : ℕ). NotDue s (event.Post c.args.lane k)) a (λ k out. not-ended a c.args.lane k (among-same (λ (x : Side). ended_in (slice_get x.lanes c.args.lane)) c.self.inside.front c.args.self.now (made c.self.inside.host_bytes c.self.inside.lanes c.self.inside.layout c.self.inside.front c.self.inside.closed.items) c.self.view_is refl c.ended-ended.result c.ended-ended.ensures k out)); setup = refl; len = refl }
+    { search = search-none (scope.Lane c.args.lane) c.args.most c.ended-ended.result (λ (s : Scene) (k : ℕ). NotDue s (event.Post c.args.lane k)) a (λ k out. not-ended a c.args.lane k (among-same (λ (x : Side). ended_in (slice_get x.lanes c.args.lane)) c.self.inside.front c.args.self.now (made c.self.inside.host_bytes c.self.inside.lanes c.self.inside.layout c.self.inside.front c.self.inside.closed.items c.self.inside.spare.items) c.self.view_is refl c.ended-ended.result c.ended-ended.ensures k out)); setup = refl; len = refl }
 
 pub returns-then-done-most-clause-pass : goal.returns-then-done-most-clause-pass
 returns-then-done-most-clause-pass g c =

@@ -11,24 +11,24 @@ use Rattle.nv_host.proofs.host_mediator.HostMediator.reap.Goals as goal
 
 pub reap-requires : goal.reap-requires
 reap-requires g c =
-    let h = made c.self.inside.host_bytes c.self.inside.lanes c.self.inside.layout c.self.inside.front c.self.inside.closed.items in
+    let h = made c.self.inside.host_bytes c.self.inside.lanes c.self.inside.layout c.self.inside.front c.self.inside.closed.items c.self.inside.spare.items in
     served-lent h c.args.self.now c.self.view_is c.self.invariant (g.C.MemoryCell.bytes c.args.memory.now) c.requires
 
 pub invariant_of-self : goal.invariant_of-self
 invariant_of-self g c =
-    let h = made c.self.inside.host_bytes c.self.inside.lanes c.self.inside.layout c.self.inside.front c.self.inside.closed.items in
+    let h = made c.self.inside.host_bytes c.self.inside.lanes c.self.inside.layout c.self.inside.front c.self.inside.closed.items c.self.inside.spare.items in
     reap-served h c.args.self.now c.self.view_is c.self.invariant c.args.lane c.reap.new.self (g.C.MemoryCell.bytes c.args.memory.now) c.requires
     c.reap.ensures.tails c.reap.result c.reap.ensures.there c.reap.ensures.ended c.reap.ensures.same
 
 pub returns-clause-ok : goal.returns-clause-ok
 returns-clause-ok g c =
-    let h = made c.self.inside.host_bytes c.self.inside.lanes c.self.inside.layout c.self.inside.front c.self.inside.closed.items in
+    let h = made c.self.inside.host_bytes c.self.inside.lanes c.self.inside.layout c.self.inside.front c.self.inside.closed.items c.self.inside.spare.items in
     reap-next h c.args.self.now c.self.view_is c.self.invariant c.args.lane c.reap.new.self (g.C.MemoryCell.bytes c.args.memory.now) c.requires
     c.reap.ensures.tails c.reap.result (live-beside c.self.inside.layout c.args.lane c.self.inside.front c.reap.new.self (g.C.MemoryCell.bytes c.args.memory.now) c.reap.result c.reap.ensures.tails c.reap.ensures.ok)
 
 pub returns-clause-stray : goal.returns-clause-stray
 returns-clause-stray g c =
-    let h = made c.self.inside.host_bytes c.self.inside.lanes c.self.inside.layout c.self.inside.front c.self.inside.closed.items in
+    let h = made c.self.inside.host_bytes c.self.inside.lanes c.self.inside.layout c.self.inside.front c.self.inside.closed.items c.self.inside.spare.items in
     reap-stray h c.args.self.now c.self.view_is c.self.invariant c.args.lane c.reap.new.self (g.C.MemoryCell.bytes c.args.memory.now) c.requires
     c.reap.ensures.tails c.reap.result c.reap.ensures.stray
 

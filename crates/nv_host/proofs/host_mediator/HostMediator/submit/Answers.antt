@@ -7,19 +7,19 @@ use Rattle.nv_host.proofs.host_mediator.HostMediator.submit.Goals as goal
 
 pub submit-requires : goal.submit-requires
 submit-requires g c =
-    let h = made c.self.inside.host_bytes c.self.inside.lanes c.self.inside.layout c.self.inside.front c.self.inside.closed.items in
+    let h = made c.self.inside.host_bytes c.self.inside.lanes c.self.inside.layout c.self.inside.front c.self.inside.closed.items c.self.inside.spare.items in
     served-lent h c.args.self.now c.self.view_is c.self.invariant (g.C.MemoryCell.bytes c.args.memory.now) c.requires
 
 pub invariant_of-self : goal.invariant_of-self
 invariant_of-self g c =
-    let h = made c.self.inside.host_bytes c.self.inside.lanes c.self.inside.layout c.self.inside.front c.self.inside.closed.items in
+    let h = made c.self.inside.host_bytes c.self.inside.lanes c.self.inside.layout c.self.inside.front c.self.inside.closed.items c.self.inside.spare.items in
     let before : List ℕ = g.C.MemoryCell.bytes c.args.memory.now in
     let after : List ℕ = g.C.MemoryCell.bytes c.submit.new.host in
     handed-served h c.args.self.now c.self.view_is c.self.invariant (event.Submit c.args.lane c.args.tag) tt c.submit.new.self before after ((c.submit.new.self ≡ c.self.inside.front) × (after ≡ before)) (many-moved c.args.lane h.side c.submit.new.self c.submit.ensures.tails) c.submit.ensures.len c.submit.result c.submit.ensures.ok c.submit.ensures.same c.submit.ensures.err (λ failed. failed.0) c.requires
 
 pub returns-clause-ok : goal.returns-clause-ok
 returns-clause-ok g c =
-    let h = made c.self.inside.host_bytes c.self.inside.lanes c.self.inside.layout c.self.inside.front c.self.inside.closed.items in
+    let h = made c.self.inside.host_bytes c.self.inside.lanes c.self.inside.layout c.self.inside.front c.self.inside.closed.items c.self.inside.spare.items in
     let before : List ℕ = g.C.MemoryCell.bytes c.args.memory.now in
     let after : List ℕ = g.C.MemoryCell.bytes c.submit.new.host in
     handed-done h c.args.self.now c.self.view_is c.self.invariant (event.Submit c.args.lane c.args.tag) tt c.submit.new.self before after ((c.submit.new.self ≡ c.self.inside.front) × (after ≡ before)) (many-moved c.args.lane h.side c.submit.new.self c.submit.ensures.tails) c.submit.ensures.len c.submit.result c.submit.ensures.ok c.submit.ensures.same

@@ -9,12 +9,12 @@ use Rattle.nv_host.proofs.host_mediator.HostMediator.submit_plan.Goals as goal
 
 pub submit_plan-requires : goal.submit_plan-requires
 submit_plan-requires g c =
-    let h = made c.self.inside.host_bytes c.self.inside.lanes c.self.inside.layout c.self.inside.front c.self.inside.closed.items in
+    let h = made c.self.inside.host_bytes c.self.inside.lanes c.self.inside.layout c.self.inside.front c.self.inside.closed.items c.self.inside.spare.items in
     served-lent h c.args.self.now c.self.view_is c.self.invariant (g.C.MemoryCell.bytes c.args.memory.now) c.requires
 
 pub invariant_of-self : goal.invariant_of-self
 invariant_of-self g c =
-    let h = made c.self.inside.host_bytes c.self.inside.lanes c.self.inside.layout c.self.inside.front c.self.inside.closed.items in
+    let h = made c.self.inside.host_bytes c.self.inside.lanes c.self.inside.layout c.self.inside.front c.self.inside.closed.items c.self.inside.spare.items in
     let before : List ℕ = g.C.MemoryCell.bytes c.args.memory.now in
     let after : List ℕ = g.C.MemoryCell.bytes c.submit_plan.new.host in
     plan-served h c.args.self.now c.self.view_is c.self.invariant (event.Submit c.args.plan.job.lane c.args.plan.job.tag) tt c.submit_plan.new.self before after
@@ -23,7 +23,7 @@ invariant_of-self g c =
 
 pub returns-clause-some : goal.returns-clause-some
 returns-clause-some g c =
-    let h = made c.self.inside.host_bytes c.self.inside.lanes c.self.inside.layout c.self.inside.front c.self.inside.closed.items in
+    let h = made c.self.inside.host_bytes c.self.inside.lanes c.self.inside.layout c.self.inside.front c.self.inside.closed.items c.self.inside.spare.items in
     let before : List ℕ = g.C.MemoryCell.bytes c.args.memory.now in
     let after : List ℕ = g.C.MemoryCell.bytes c.submit_plan.new.host in
     subst (λ (o : Served). IfSome c.submit_plan.result (λ r. IsCurrentIn o.setup.geometry o.side.lanes c.args.plan

@@ -1,5 +1,5 @@
-use Rattle.std.proofs.Common.{refl, subst}
-use Rattle.nv_core.specs.Noted.{NoneWaits}
+use Rattle.std.proofs.Common.{◌≡◌, ◌∙◌, false, refl, slice_get, subst, sym}
+use Rattle.nv_core.specs.Noted.{has_front}
 use Rattle.nv_host.proofs.Queues.{none-takes}
 use Rattle.nv_host.proofs.Rounds.{pass-none}
 use Rattle.nv_host.specs.Served.{Served}
@@ -12,5 +12,6 @@ pub returns-then-not-waits-clause-pass : goal.returns-then-not-waits-clause-pass
 returns-then-not-waits-clause-pass g c =
     let a : Scene = scene c.args.self.now (g.C.MemoryCell.bytes c.args.memory.now) in
     pass-none (scope.Guest c.args.guest) (NotDue a (event.Take c.args.guest c.args.queue c.args.lane)) c.args.most c.so_far.result a a c.so_far.ensures refl
-    (none-takes a c.args.guest c.args.queue (subst (λ (x : Served). NoneWaits c.args.guest c.args.queue x.side) c.self.view_is (c.waits.ensures c.if-not-waits.true))
+    (none-takes a c.args.guest c.args.queue (subst (λ (x : Served). has_front c.args.queue (slice_get x.side.controllers c.args.guest) ≡ false) c.self.view_is
+    (sym c.waits.ensures ∙ c.if-not-waits.true))
     c.args.lane)

@@ -1,6 +1,6 @@
 use Rattle.std.proofs.Common.{◌≡◌, ◌∙◌, ◌+◌, ◌<◌, arith, ap, refl}
 use Rattle.nv_host.proofs.Rounds.{after-fits, worked-all, worked-end, worked-on}
-use Rattle.nv_host.proofs.Works.{ended-closed, leads_none}
+use Rattle.nv_host.proofs.Works.{ended-stays, leads_none}
 use Rattle.nv_host.specs.Work.{IsWorked, Rests, Scene, scene}
 use Rattle.nv_host.specs.declared.worked.Worked.{Worked}
 use Rattle.nv_host.proofs.host_mediator.HostMediator.work.Goals as goal
@@ -34,7 +34,17 @@ returns-then-last-clause-closed g c =
     let w : Worked = c.go_round-pass.result in
     let v : Worked = c.after-whole.result in
     let is : IsWorked c.args.scope c.args.most v a n = worked-end c.args.scope c.args.most c.loop-done.done w c.after-whole.result a b n c.after-whole.ensures c.loop-done.invariant.leads c.loop-done.invariant.few c.go_round-pass.ensures.pass (c.is_last-last.ensures.yes c.if-last.true) in
-    ended-closed c.args.scope c.args.most v.done (v.done < c.args.most → Rests c.args.scope n) v.why a n is
+    (ended-stays c.args.scope c.args.most v.done (v.done < c.args.most → Rests c.args.scope n) v.why a n is).closed
+
+pub returns-then-last-clause-spare : goal.returns-then-last-clause-spare
+returns-then-last-clause-spare g c =
+    let a : Scene = scene c.args.self.now (g.C.MemoryCell.bytes c.args.memory.now) in
+    let b : Scene = scene c.loop-done.self (g.C.MemoryCell.bytes c.loop-done.memory) in
+    let n : Scene = scene c.go_round-pass.new.self (g.C.MemoryCell.bytes c.go_round-pass.new.memory) in
+    let w : Worked = c.go_round-pass.result in
+    let v : Worked = c.after-whole.result in
+    let is : IsWorked c.args.scope c.args.most v a n = worked-end c.args.scope c.args.most c.loop-done.done w c.after-whole.result a b n c.after-whole.ensures c.loop-done.invariant.leads c.loop-done.invariant.few c.go_round-pass.ensures.pass (c.is_last-last.ensures.yes c.if-last.true) in
+    (ended-stays c.args.scope c.args.most v.done (v.done < c.args.most → Rests c.args.scope n) v.why a n is).spare
 
 pub loop-done-preserved : goal.loop-done-preserved
 loop-done-preserved g c =
@@ -75,4 +85,13 @@ returns-clause-closed g c =
     let v : Worked = c.so_far.result in
     let is : IsWorked c.args.scope c.args.most v a b =
     worked-all c.args.scope c.args.most c.loop-done.done v a b c.so_far.ensures c.loop-done.invariant.leads c.loop-done.invariant.few c.loop-done-test.false in
-    ended-closed c.args.scope c.args.most v.done (v.done < c.args.most → Rests c.args.scope b) v.why a b is
+    (ended-stays c.args.scope c.args.most v.done (v.done < c.args.most → Rests c.args.scope b) v.why a b is).closed
+
+pub returns-clause-spare : goal.returns-clause-spare
+returns-clause-spare g c =
+    let a : Scene = scene c.args.self.now (g.C.MemoryCell.bytes c.args.memory.now) in
+    let b : Scene = scene c.loop-done.self (g.C.MemoryCell.bytes c.loop-done.memory) in
+    let v : Worked = c.so_far.result in
+    let is : IsWorked c.args.scope c.args.most v a b =
+    worked-all c.args.scope c.args.most c.loop-done.done v a b c.so_far.ensures c.loop-done.invariant.leads c.loop-done.invariant.few c.loop-done-test.false in
+    (ended-stays c.args.scope c.args.most v.done (v.done < c.args.most → Rests c.args.scope b) v.why a b is).spare

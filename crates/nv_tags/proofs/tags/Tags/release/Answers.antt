@@ -1,9 +1,11 @@
-use Rattle.std.proofs.Common.{◌≡◌, ℕ, ap, refl, slice_index, subst, sym, ◌∙◌, arith}
-use Rattle.nv_tags.specs.Kept.{IsWithout, is_ended_state, is_taken_state}
+use Rattle.std.proofs.Common.{◌≡◌, ℕ, ap, refl, slice_index, slice_index_or, subst, sym, ◌∙◌, arith}
+use Rattle.nv_tags.specs.Kept.{AreWithout, IsWith, IsWithout, is_ended_state, is_taken_state}
+use Rattle.nv_tags.specs.Tags.{is_free_state}
 use Rattle.nv_tags.specs.declared.state.TagState.TheVariants as state
-use Rattle.nv_tags.proofs.Marks.{mask-without}
+use Rattle.nv_tags.proofs.Marks.{mask-with, mask-without}
 use Rattle.nv_tags.proofs.Groups.{AreKept-released}
-use Rattle.nv_tags.proofs.Slots.{released-seen, there}
+use Rattle.nv_tags.proofs.Owners.{owned-free}
+use Rattle.nv_tags.proofs.Slots.{inside, released-seen, there}
 use Rattle.nv_tags.proofs.tags.Tags.release.Goals as goal
 
 pub bounds-self-inside-from : goal.bounds-self-inside-from
@@ -40,6 +42,9 @@ invariant_of-self c =
           c.from-leader.result c.without.result (c.from-leader.ensures ∙ ap (slice_index c.self.inside.leaders) (sym same))
           (subst (λ (n : ℕ). IsWithout (slice_index c.self.inside.groups c.from-leader.result) n c.without.result) (sym c.from-2.ensures) c.without.ensures),
       record {
+        free_are = mask-with is_free_state c.self.inside.states c.self.inside.free c.from-2.result state.Free c.self.invariant.1.free_are (omega (arith, below, all))
+            c.with-self-inside.result refl
+            (subst (λ (n : ℕ). IsWith c.self.inside.free n c.with-self-inside.result) (sym c.from-2.ensures) c.with-self-inside.ensures);
         taken_are = mask-without is_taken_state c.self.inside.states c.self.inside.taken c.from-2.result state.Free c.self.invariant.1.taken_are (omega (arith, below, all))
             c.without-self-inside.result refl
             (subst (λ (n : ℕ). IsWithout c.self.inside.taken n c.without-self-inside.result) (sym c.from-2.ensures) c.without-self-inside.ensures);
@@ -47,6 +52,13 @@ invariant_of-self c =
             c.without-self-inside-2.result refl
             (subst (λ (n : ℕ). IsWithout c.self.inside.ended n c.without-self-inside-2.result) (sym c.from-2.ensures) c.without-self-inside-2.ensures);
       },
+      owned-free c.self.inside.states c.self.inside.claims c.self.inside.leaders c.self.inside.groups c.self.invariant.0 c.self.inside.owned c.disown.new.owned
+          c.self.invariant.2 c.from-2.result below _ c.index-self-from-2.result
+          (inside c.self.inside.states c.self.inside.claims c.self.inside.leaders c.self.inside.groups c.self.invariant.0 c.args.self.now c.self.view_is c.args.tag c.from-2.result c.from-2.ensures c.requires.used)
+          c.disown.ensures.size
+          (ap (λ (n : ℕ). (slice_index_or c.self.inside.claims n c.index-self-from-2.result).guest) (c.from-3.ensures ∙ sym c.from-2.ensures))
+          (subst (λ (n : ℕ).
+          AreWithout c.self.inside.owned (slice_index_or c.self.inside.claims c.from-3.result c.index-self-from-2.result).guest n c.disown.new.owned) (sym c.from-2.ensures) c.disown.ensures.bits),
     )
 
 pub without-self-inside-requires : goal.without-self-inside-requires
@@ -66,3 +78,29 @@ without-self-inside-requires-2 c =
 pub returns : goal.returns
 returns c = released-seen c.self.inside.states c.self.inside.claims c.self.inside.leaders c.self.inside.groups c.self.invariant.0 c.args.self.now c.self.view_is
     c.args.tag c.from-2.result c.from-2.ensures
+
+pub listed-2 : goal.listed-2
+listed-2 c =
+    let below = there c.self.inside.states c.self.inside.claims c.self.inside.leaders c.self.inside.groups c.self.invariant.0 c.args.self.now c.self.view_is
+    c.args.tag c.from-3.result c.from-3.ensures c.requires.used in
+    let all = c.self.invariant.0.claims_are in
+    omega arith
+
+pub bounds-self-inside-from-3 : goal.bounds-self-inside-from-3
+bounds-self-inside-from-3 c =
+    there c.self.inside.states c.self.inside.claims c.self.inside.leaders c.self.inside.groups c.self.invariant.0 c.args.self.now c.self.view_is
+    c.args.tag c.from-3.result c.from-3.ensures c.requires.used
+
+pub disown-requires : goal.disown-requires
+disown-requires c =
+    let below = there c.self.inside.states c.self.inside.claims c.self.inside.leaders c.self.inside.groups c.self.invariant.0 c.args.self.now c.self.view_is
+    c.args.tag c.from-3.result c.from-3.ensures c.requires.used in
+    let same = c.from-3.ensures in
+    omega (arith, below, same)
+
+pub with-self-inside-requires : goal.with-self-inside-requires
+with-self-inside-requires c =
+    let below = there c.self.inside.states c.self.inside.claims c.self.inside.leaders c.self.inside.groups c.self.invariant.0 c.args.self.now c.self.view_is
+    c.args.tag c.from-2.result c.from-2.ensures c.requires.used in
+    let same = c.from-2.ensures in
+    omega (arith, below, same)
