@@ -363,9 +363,10 @@ static inline nvmed_status nvmed_changed(nvmed *m, nvmed_seen *seen, uint32_t *g
 }
 
 /* Gives a guest a share of `tags` of each lane's 64 tags: nvmed_work takes a command of the guest for a lane only while the guest's tags there, with one
- * for each of its extents, are no more than that. While no guest has more than its share of a lane, a guest whose
- * share has room there has its next command taken (proved). That nvmed_work keeps every guest within its share is not proved. At the start each guest's share is one tag for each of its extents, and the tags that are left
- * are divided equally. What the guest has already stays its own. NVMED_TAKE is not bound by shares. It needs no memory. SAFE, EXACT.
+ * for each of its extents, are no more than that. So nvmed_work leaves each guest within its share of a lane where it was, and while no guest has more
+ * than its share there, a guest whose share has room has its next command taken (both proved). At the start each guest's share is one tag for each of its
+ * extents, and the tags that are left are divided equally. What the guest has already stays its own. NVMED_TAKE is not bound by shares. It needs no
+ * memory. SAFE, EXACT.
  * Errors: NULL, NO_MEDIATOR, NO_SUCH (above 255, or the mediator is a simulation), IGNORED (no such guest), BAD_SIZE (`tags` are fewer than the guest has
  * extents, or all shares together would be above 64); nothing has changed then. */
 static inline nvmed_status nvmed_share(nvmed *m, uint32_t guest, uint32_t tags) {

@@ -4,7 +4,7 @@ ghost use Rattle.std.specs.Prelude.{◌≡◌, IfSome, length};
 
 use nv_bringup::{BLOCKS, BRING_UP, Span, act_of, guest_at, setup_of};
 use nv_entry::{Cqe, Sqe, StatusCode};
-use nv_host::{Closed, HostMediator, Scope, Stray, Worked};
+use nv_host::{Closed, HostMediator, Scope, ShareRefusal, Stray, Worked};
 use nv_model::{Act, Reply};
 use nv_plan::{Planned, make_plan};
 use nv_world_model::Event;
@@ -141,6 +141,15 @@ impl Bench {
     pub fn work(&mut self, scope: Scope, most: u64) -> Worked {
         self.mediator
             .work(self.alloc, scope, most, &mut self.memory)
+    }
+
+    /// A guest gets a share.
+    ///
+    /// # Errors
+    ///
+    /// Why not.
+    pub fn share(&mut self, guest: u8, tags: u32) -> Result<(), ShareRefusal> {
+        self.mediator.set_share(guest, tags)
     }
 
     /// Whether an event is due.

@@ -5,7 +5,7 @@ ghost use Rattle.nv_mem.specs.Lent.{bytes_of_hosts};
 
 use crate::drive;
 use crate::plans::Plans;
-use crate::watched::Watched;
+use crate::watched::{Watched, loads};
 use nv_bringup::Random;
 use nv_device::Device;
 use nv_host::{HostMediator, Scope, Setup, Stray, Worked};
@@ -147,6 +147,18 @@ impl Desk {
             Planned::Plan(_plan) => Some(Event::Submit(lane, tag)),
             Planned::NoMemory(_job) => None,
         }
+    }
+
+    /// Reads the next completion of a lane, and reaps it in the same call: what a mediator does that fetches it twice. Stale, too, where it is stray.
+    pub fn reap_again(&mut self, lane: u8) -> Reply {
+        self.begin();
+        if let (Some(ring), Some(head)) = (
+            self.mediator.completion_ring(lane),
+            self.mediator.head(lane),
+        ) {
+            loads(&self.memory, ring.wrapping_add(16 * u64::from(head)));
+        }
+        self.reap(lane).unwrap_or(Reply::Stale)
     }
 
     /// The drive, for what it shows.

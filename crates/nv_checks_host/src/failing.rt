@@ -1,4 +1,4 @@
-//! That the comparison of the two worlds can fail: what happens in one of them alone is seen.
+//! That the comparison of the two worlds can fail: what happens in one of them alone is seen, and what a call reads twice is counted.
 
 use crate::counts::Kind;
 use crate::desk::Form;
@@ -7,6 +7,7 @@ use crate::pair::Pair;
 use crate::two_guests::{GUEST_PAGES, opened};
 use nv_bringup::Fields;
 use nv_entry::Status;
+use nv_model::Reply;
 use nv_world_model::Event;
 use std::process::Abort;
 
@@ -52,4 +53,14 @@ fn a_false_completion_is_seen(rt: HostRuntime) {
     );
     assert!(rt; pair.plays(&Event::Reap(0)) && pair.are_same_pages(0, GUEST_PAGES));
     assert!(rt; pair.plays(&Event::Post(0, 0)) && !pair.are_same_pages(0, GUEST_PAGES));
+}
+
+// A completion that is read once more by the call that reaps it.
+#[test]
+fn a_completion_read_twice_is_counted(rt: HostRuntime) {
+    let mut pair = entered(&rt);
+    assert!(rt; pair.plays(&Event::Take(0, 1, 0)) && pair.plays(&Event::Submit(0, 0)));
+    assert!(rt; pair.plays(&Event::DevTake(0)) && pair.plays(&Event::DevMove(0, 0, 0)));
+    assert!(rt; pair.plays(&Event::DevPost(0, 0)) && pair.own_again() == 0);
+    assert!(rt; matches!(pair.desk.reap_again(0), Reply::Done) && pair.own_again() == 16);
 }

@@ -7,7 +7,7 @@
 //! memory and disk. [`failing`] shows that a difference is found. In [`earlier`] the host starts anew, with a drive that has data and a memory full of
 //! other bytes.
 //!
-//! In [`working`] what is due is carried out by `HostMediator::work` alone, beside a drive.
+//! In [`working`] what is due is carried out by `HostMediator::work` alone, beside a drive. [`sharing`] shows what a guest's share does to it.
 //!
 //! The memory ([`watched::Watched`]) marks each byte that a call reads or writes. So it shows whether a call reads a byte twice, or reads what it wrote
 //! itself.
@@ -45,6 +45,8 @@ mod pair;
 mod plans;
 #[cfg(test)]
 mod rounds;
+#[cfg(test)]
+mod sharing;
 #[cfg(test)]
 mod two_guests;
 #[cfg(test)]

@@ -168,9 +168,8 @@ impl MemoryCell for Watched {
     }
 }
 
-// Loads bytes from an address on, where the memory has them.
-#[cfg(test)]
-fn loads(memory: &[Watched], addr: u64) {
+/// Loads 16 bytes from an address on, where the memory has them.
+pub fn loads(memory: &[Watched], addr: u64) {
     let mut bytes = [0; 16];
     if let Some(watched) = memory.first() {
         if watched.host.holds(addr, 16) {
@@ -179,7 +178,7 @@ fn loads(memory: &[Watched], addr: u64) {
     }
 }
 
-// Stores bytes from an address on, where the memory has them.
+// Stores 16 bytes from an address on, where the memory has them.
 #[cfg(test)]
 fn stores(memory: &mut [Watched], addr: u64) {
     if let Some(watched) = memory.first() {

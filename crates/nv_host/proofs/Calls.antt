@@ -1,5 +1,5 @@
 -- A call of a mediator that is served: what it needs, what its type keeps after it, and what its callers see.
-use Rattle.std.proofs.Common.{◌≡◌, ℕ, ◌≤◌, [], true, false, List, length, Option, Some, None, refl, sym, subst, ap, ◌∙◌}
+use Rattle.std.proofs.Common.{◌≡◌, ℕ, ◌≤◌, [], true, false, List, length, Option, Some, None, arith, refl, sym, subst, ap, ◌∙◌}
 use Rattle.std.specs.Prelude.{Err, IfOk, IfSome, Ok, OnErr, Result}
 use Rattle.std.proofs.lemmas.List.{ext_get_or}
 use Rattle.nv_core.proofs.Alike.{counted-alike}
@@ -11,9 +11,12 @@ use Rattle.nv_core.proofs.Sides.{own-side, own-world}
 use Rattle.nv_core.specs.Front.{ComesTo, CountMore, HasTailMoved, IsSideStep, IsStepInEach, Side, tails_of, with_side}
 use Rattle.nv_core.specs.Kept.{IsLent}
 use Rattle.nv_host.proofs.Accepted.{few-lanes, lies-out}
-use Rattle.nv_host.specs.Served.{IsDone, IsServed, Served}
+use Rattle.nv_host.proofs.HeldEvents.{step-given as world-given}
+use Rattle.nv_host.proofs.HeldLanes.{held-alike}
+use Rattle.nv_host.specs.Served.{AreGiven, IsDone, IsServed, Served}
 use Rattle.nv_laws_front.proofs.Reached.{call-reached}
 use Rattle.nv_laws_sound.proofs.CountedActs.{still-counted}
+use Rattle.nv_laws_sound.proofs.CountedEvents.{kept-whole}
 use Rattle.nv_laws_sound.proofs.CountedSteps.{side-counted}
 use Rattle.nv_laws_sound.proofs.Lists.{length-set}
 use Rattle.nv_laws_sound.specs.Counted.{IsCounted}
@@ -106,6 +109,19 @@ module _ (h : Served) (is : IsServed h) (e : Event) (mine : IsMediators e) (new 
       ∙ ap (λ (w : World). w.host)
       ((step-answers h.setup.geometry e mine_own).dull (ap (λ (a : After). is_telling a.reply) (sym comes) ∙ quiet))
 
+  laid : IsLaidOut h.setup.host_bytes (length h.side.lanes) h.setup.geometry
+  laid =
+      subst (λ n. IsLaidOut h.setup.host_bytes n h.setup.geometry) (sym is.lanes) (lies-out h.setup is.accepted is.sound)
+
+  -- tags are given as in the own world
+  step-given : AreGiven e h (serving h new)
+  step-given guest lane =
+      let moved =
+      world-given h.setup.geometry h.setup.host_bytes mine_own laid (kept-whole h.setup.geometry mine_own (own-kept h.setup.geometry h.side before is.kept))
+      e mine guest lane in
+      let same = held-alike guest lane new.lanes next_own.lanes (ap (λ (a : After). a.world.lanes) comes) in
+      omega (arith, moved, same)
+
   pub step-done : length after ≡ length before → IsDone e h before r (serving h new) after
   step-done sized =
       record {
@@ -113,6 +129,7 @@ module _ (h : Served) (is : IsServed h) (e : Event) (mine : IsMediators e) (new 
           setup = refl;
           closed = refl;
           spare = refl;
+          tags = step-given;
           logs = (λ first log z leads.
               let on = comes-beside h.setup.geometry e h.side new before after r z (made z leads.beside) many leads.beside in
               (on.reply, call-reached h.setup first e h.side new before after r log z mine leads on));

@@ -5,6 +5,8 @@ pub mod Dues
 pub mod Failed
 pub mod Fails
 pub mod Failures
+pub mod HeldEvents
+pub mod HeldLanes
 pub mod GivenUp
 pub mod ListJobs
 pub mod Made
@@ -23,4 +25,5 @@ pub mod Starts
 pub mod Cleared
 pub mod TakenAll
 pub mod Unshared
+pub mod Within
 pub mod Works

@@ -1,16 +1,18 @@
 -- A Reap of a mediator that is served.
-use Rattle.std.proofs.Common.{◌≡◌, ℕ, ◌<◌, List, length, slice_get, Some, refl, sym, subst, ap, ◌∙◌}
+use Rattle.std.proofs.Common.{◌≡◌, ℕ, ◌<◌, List, length, slice_get, Some, arith, refl, sym, subst, ap, ◌∙◌}
 use Rattle.std.specs.Prelude.{Err, IfOk, Ok, OnErr, Result}
 use Rattle.nv_core.proofs.FrontLaws.{comes-beside, reaped-lent}
 use Rattle.nv_core.proofs.Sides.{own-side, own-world}
 use Rattle.nv_core.specs.Front.{IsBeside, IsLive, IsLiveStep, IsReaped, IsStepBeside, Side, with_side}
+use Rattle.nv_core.specs.Held.{held_in}
 use Rattle.nv_core.specs.Kept.{IsLent}
 use Rattle.nv_host.proofs.Accepted.{leads-live}
 use Rattle.nv_host.proofs.Calls.{same-served, served-lent, serving}
 use Rattle.nv_host.proofs.Runs.{lead-step}
 use Rattle.nv_host.specs.Closing.{Reads}
 use Rattle.nv_host.specs.Ending.{IsRun}
-use Rattle.nv_host.specs.Served.{IsNext, IsServed, IsUnreached, Served}
+use Rattle.nv_host.proofs.HeldEvents.{reaped-fewer}
+use Rattle.nv_host.specs.Served.{AreGiven, IsNext, IsServed, IsUnreached, Served}
 use Rattle.nv_laws_front.proofs.Reached.{call-reached}
 use Rattle.nv_laws_sound.proofs.CountedActs.{still-counted}
 use Rattle.nv_laws_sound.proofs.CountedEvents.{reaped-counted}
@@ -22,6 +24,7 @@ use Rattle.nv_model.specs.declared.reply.Reply.TheVariants as reply
 use Rattle.nv_world_model.specs.Geometry.{Geometry}
 use Rattle.nv_world_model.specs.Seat.{completion_at}
 use Rattle.nv_world_model.specs.World.{Lane, World}
+use Rattle.nv_world_model.specs.declared.event.Event.{Event}
 use Rattle.nv_world_model.specs.declared.event.Event.TheVariants as event
 
 -- a completion was read
@@ -42,6 +45,13 @@ module _ (h : Served) (is : IsServed h) (lane : ℕ) (new : Side) (memory : List
       (reaped-counted h.setup.geometry own lane (completion_at h.setup.geometry own lane there.0.head) there.0 there.1
       (is.counted memory own (own-side h.side memory)))
 
+  -- no guest has more tags then
+  read-given : AreGiven (event.Reap lane) h (serving h new)
+  read-given guest a =
+      let fewer = reaped-fewer h.setup.geometry own lane (completion_at h.setup.geometry own lane there.0.head) guest a in
+      let same = ap (λ (w : World). held_in guest (slice_get w.lanes a)) (read own there.0 (own-side h.side memory) there.1) in
+      omega (arith, fewer, same)
+
   pub read-served : IsServed (serving h new)
   read-served =
       record {
@@ -53,6 +63,11 @@ module _ (h : Served) (is : IsServed h) (lane : ℕ) (new : Side) (memory : List
         kept = lent-after.kept;
         counted = (λ at w on. still-counted h.setup.geometry (with_side new memory own) w on.lanes on.controllers counted-own);
       }
+
+same-given : (e : Event) (h : Served) (new : Side) → new ≡ h.side → AreGiven e h (serving h new)
+same-given e h new same guest a =
+    let held = ap (λ (x : Side). held_in guest (slice_get x.lanes a)) same in
+    omega (arith, held)
 
 -- one was, or nothing has changed
 module _ {E : Type 0} (h o : Served) (view : h ≡ o) (is : IsServed h) (lane : ℕ) (new : Side) (memory : List ℕ) (sized : length memory ≡ o.setup.host_bytes)
@@ -72,21 +87,37 @@ module _ {E : Type 0} (h o : Served) (view : h ≡ o) (is : IsServed h) (lane : 
   reap-served (Ok reply.NoMemory) below read same = same-served h new is (same (λ e. cc))
   reap-served (Err x) below read same = same-served h new is (same (λ e. cc))
 
+  pub reap-given : (result : Result Reply E) → (◌≡◌ {A = Result Reply E} result (Ok reply.Done) → lane < length h.side.lanes)
+      → (◌≡◌ {A = Result Reply E} result (Ok reply.Done) → IsReaped h.setup.geometry lane h.side new memory)
+      → ((◌≡◌ {A = Result Reply E} result (Ok reply.Done) → ⊥) → new ≡ h.side) → AreGiven (event.Reap lane) h (serving h new)
+  reap-given (Ok reply.Done) below read same =
+      read-given h is lane new memory (served-lent h o view is memory sized) (below refl) (read refl) tails
+  reap-given (Ok (reply.Bytes bytes)) below read same = same-given (event.Reap lane) h new (same (λ e. cc))
+  reap-given (Ok reply.Idle) below read same = same-given (event.Reap lane) h new (same (λ e. cc))
+  reap-given (Ok reply.Busy) below read same = same-given (event.Reap lane) h new (same (λ e. cc))
+  reap-given (Ok reply.Held) below read same = same-given (event.Reap lane) h new (same (λ e. cc))
+  reap-given (Ok reply.Stale) below read same = same-given (event.Reap lane) h new (same (λ e. cc))
+  reap-given (Ok reply.Unmapped) below read same = same-given (event.Reap lane) h new (same (λ e. cc))
+  reap-given (Ok reply.Ignored) below read same = same-given (event.Reap lane) h new (same (λ e. cc))
+  reap-given (Ok reply.NoMemory) below read same = same-given (event.Reap lane) h new (same (λ e. cc))
+  reap-given (Err x) below read same = same-given (event.Reap lane) h new (same (λ e. cc))
+
   -- it is the next event of each log that leads there
-  pub reap-next : (result : Result Reply E) → IfOk result (λ r. (w : World) → IsBeside h.side memory w → IsLive h.setup.geometry w
+  pub reap-next : AreGiven (event.Reap lane) h (serving h new) → (result : Result Reply E) → IfOk result (λ r. (w : World) → IsBeside h.side memory w → IsLive h.setup.geometry w
       → IsStepBeside h.setup.geometry (event.Reap lane) w r new memory)
       → IfOk result (λ r. IsNext (event.Reap lane) o memory r (serving h new) memory)
-  reap-next (Ok r) made =
+  reap-next given (Ok r) made =
       subst (λ (x : Served). IsNext (event.Reap lane) x memory r (serving h new) memory) view
       (record {
         setup = refl;
         closed = refl;
         spare = refl;
+        tags = given;
         logs = (λ first log z leads.
             let on = made z leads.beside (leads-live h.setup is.accepted is.sound first h.side memory log z leads) in
             (on.reply, call-reached h.setup first (event.Reap lane) h.side new memory memory r log z tt leads on));
       })
-  reap-next (Err x) made = tt
+  reap-next given (Err x) made = tt
 
   -- or there is none
   pub reap-stray : (result : Result Reply E) → OnErr result ((w : World) → IsBeside h.side memory w → IsLive h.setup.geometry w → ⊥)

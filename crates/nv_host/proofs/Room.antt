@@ -1,5 +1,5 @@
 -- A lane of which no guest has more than its share has tags for a command of a guest whose share has room.
-use Rattle.std.proofs.Common.{◌≡◌, refl, sym, ap, ◌∙◌, subst, ℕ, zero, suc, ◌+◌, ◌<◌, ◌≤◌, ◌==◌, nat_le, not, ◌&&◌, cond, Bool, true, false, arith}
+use Rattle.std.proofs.Common.{◌≡◌, refl, ap, ◌∙◌, subst, ℕ, zero, suc, ◌+◌, ◌<◌, ◌≤◌, ◌==◌, nat_le, not, ◌&&◌, cond, Bool, true, false, arith}
 use Rattle.std.proofs.Common.{List, [], ◌∷◌, length, slice_get, take, Option, Some, None, is_some}
 use Rattle.std.proofs.lemmas.Bool.{le-leb, leb-true}
 use Rattle.std.proofs.lemmas.Bool.Decides.{nat_tests}
@@ -21,13 +21,12 @@ use Rattle.nv_laws_sound.proofs.Lists.{slice_get-below, slice_get-there, some-sa
 use Rattle.nv_laws_sound.specs.Kept.{IsKeptTag}
 use Rattle.nv_model.specs.Controller.{Controller, front}
 use Rattle.nv_world_model.proofs.TagCounts.{tags_of_entry-some}
-use Rattle.nv_world_model.specs.Area.{tag_count}
 use Rattle.nv_world_model.specs.Due.{due}
 use Rattle.nv_world_model.specs.Geometry.{Geometry, Guest}
 use Rattle.nv_world_model.specs.Seat.{Owner, owner_by}
 use Rattle.nv_world_model.specs.Share.{tags_of_entry}
 use Rattle.nv_world_model.specs.Step.{entry_at, for_one, is_done, is_io_queue, replied, step, take_from, take_front, take_tags}
-use Rattle.nv_world_model.specs.World.{Command, Ended, Flying, Free, Lane, Tag, Taken, World, claimed, is_free, tags_where}
+use Rattle.nv_world_model.specs.World.{Ended, Flying, Free, Lane, Tag, Taken, World, claimed, is_free, tags_where}
 use Rattle.nv_world_model.specs.declared.event.Event.TheVariants as event
 use Rattle.nv_model.specs.declared.reply.Reply.TheVariants as reply
 

@@ -1,5 +1,5 @@
 -- The guests' shares of a lane's tags, added up and changed.
-use Rattle.std.proofs.Common.{◌≡◌, ℕ, zero, suc, ◌+◌, ◌-◌, ◌<◌, ◌≤◌, List, [], ◌∷◌, get_or, length, set, slice_get, sum, sum_by, take, Some, arith, refl, sym, ap, ◌∙◌}
+use Rattle.std.proofs.Common.{◌≡◌, ℕ, zero, suc, ◌+◌, ◌<◌, ◌≤◌, List, [], ◌∷◌, get_or, set, slice_get, sum, sum_by, take, Some, arith, ap}
 use Rattle.std.proofs.lemmas.List.Sums.{get_or-le-sum_by, sum_by-set, sum_by_more, sum_by_more_le}
 use Rattle.nv_host.specs.Shares.{AreShares, most_needed, needed_in_all}
 use Rattle.nv_laws_sound.proofs.Lists.{slice_get-below, some-same}

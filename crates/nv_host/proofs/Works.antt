@@ -104,7 +104,7 @@ leads_give guest lane tag a b r may made =
 
 -- ---- what stays
 
-made-next : (e : Event) (a : Scene) (r : Reply) (b : Scene) → IsMade e a r b → IsNext e a.served a.memory r b.served b.memory
+pub made-next : (e : Event) (a : Scene) (r : Reply) (b : Scene) → IsMade e a r b → IsNext e a.served a.memory r b.served b.memory
 made-next (event.Reap lane) a r b made = made.next
 made-next e a r b made = made.next
 

@@ -1,9 +1,9 @@
 -- The mediator of a host that has memory and a drive of its own: what the code holds, which logs lead to it, and what a call comes to (profile).
-use Rattle.std.specs.Prelude.{◌≡◌, ℕ, ◌<◌, ◌≤◌, ◌⊎◌, Bool, true, false, if◌then◌else◌, List, [], ◌∷◌, ◌++◌, nat_lt, not, Option, length, replicate, slice_get, Some, None}
+use Rattle.std.specs.Prelude.{◌≡◌, ℕ, ◌+◌, ◌<◌, ◌≤◌, ◌⊎◌, Bool, true, false, if◌then◌else◌, List, [], ◌∷◌, ◌++◌, nat_lt, not, Option, length, replicate, slice_get, Some, None}
 use Rattle.nv_core.specs.Front.{IsBeside, IsSideOf, IsStepBeside, Side, opening_side}
 use Rattle.nv_core.specs.Held.{held_in}
 use Rattle.nv_core.specs.Kept.{IsKept}
-use Rattle.nv_host.specs.Shares.{AreShares, is_within, needed_in_all, opening_spare}
+use Rattle.nv_host.specs.Shares.{AreShares, is_within, most_given, needed_in_all, opening_spare}
 use Rattle.nv_laws_front.specs.Reached.{IsReached}
 use Rattle.nv_laws_sound.specs.Counted.{IsCounted}
 use Rattle.nv_mediator.specs.Refused.{refused}
@@ -65,11 +65,18 @@ first_refusal s = refused (serving_refusal_of s)
 abbrev pub LeadsTo : Served → (first : World) → (memory : List ℕ) → List Logged → World → Type 0
 LeadsTo h first memory log z = IsReached h.setup first h.side memory log z
 
+-- an event gives a guest no more tags of a lane than it may: only a Take gives any
+abbrev pub AreGiven : Event → (old new : Served) → Type 0
+AreGiven e old new =
+    (guest lane : ℕ)
+    → held_in guest (slice_get new.side.lanes lane) ≤ held_in guest (slice_get old.side.lanes lane) + most_given old.setup.geometry.guests e guest lane
+
 -- a call was the next event of each log that leads to it: its reply is the definition's, and the log with it leads to what is there after the call
 pub record IsNext (e : Event) (old : Served) (before : List ℕ) (r : Reply) (new : Served) (after : List ℕ) : Type 0 where
   pub setup : new.setup ≡ old.setup
   pub closed : new.closed ≡ old.closed
   pub spare : new.spare ≡ old.spare
+  pub tags : AreGiven e old new
   pub logs : (first : World) (log : List Logged) (z : World) → LeadsTo old first before log z
       → ((step old.setup.geometry e z).reply ≡ r)
       × LeadsTo new first after (log ++ record { event = e; reply = r } ∷ []) (step old.setup.geometry e z).world

@@ -3,8 +3,10 @@
 ghost use Rattle.std.specs.Prelude.{ℕ, List};
 ghost use Rattle.nv_host.specs.Served.{IsServed, Served};
 ghost use Rattle.nv_host.specs.Sharing.{AreWithin, HasRoom};
-ghost use Rattle.nv_host.specs.Work.{IsWork, scene};
+ghost use Rattle.nv_host.specs.Work.{IsWork, IsWorked, Scene, scene};
+ghost use Rattle.nv_host.specs.declared.worked.Scope.{Scope};
 ghost use Rattle.nv_host.specs.declared.worked.Scope.TheVariants as scope;
+ghost use Rattle.nv_host.specs.declared.worked.Worked.{Worked};
 ghost use Rattle.nv_world_model.specs.declared.event.Event.TheVariants as event;
 
 /// Where no guest has more than its share of a lane, a guest whose share has room there may have its next command taken, whatever others do and whatever is
@@ -13,4 +15,11 @@ ghost use Rattle.nv_world_model.specs.declared.event.Event.TheVariants as event;
 pub fn a_share_with_room_has_its_command_taken()
     ensures { (h : Served) (memory : List ℕ) (guest queue lane : ℕ) → IsServed h → AreWithin lane h → HasRoom guest queue lane h →
         IsWork (scope.Guest guest) (scene h memory) (event.Take guest queue lane) }
+{}
+
+/// A call of [`crate::HostMediator::work`] leaves each guest within its share of a lane where it was before. So a guest that only this call takes
+/// commands of never has more tags of a lane than its share.
+pub fn work_keeps_each_guest_within_its_share()
+    ensures { (sc : Scope) (most : ℕ) (worked : Worked) (old new : Scene) (lane : ℕ) → IsWorked sc most worked old new → AreWithin lane old.served →
+        AreWithin lane new.served }
 {}

@@ -30,9 +30,9 @@ impl HostMediator {
     /// A round costs what its events cost, and a look at each lane. Tags are looked at where their commands wait or have ended, and guests where a note says that
     /// something may be due of their queues; the note is made when the guest's controller changes.
     ///
-    /// A guest has at most its share of a lane's tags: its next command is taken for a lane only where it has so few there that the command may need whatever
-    /// it can ([`HostMediator::set_share`]). All shares together are no more than a lane has, so whatever others do, a guest whose share has room has its
-    /// commands taken.
+    /// A guest's next command is taken for a lane only where the guest has so few tags there that the command may need whatever it can
+    /// ([`HostMediator::set_share`]). So a call leaves each guest within its share of a lane where it was; and since all shares together are no more than a
+    /// lane has, a guest whose share has room has its commands taken, whatever others do ([`crate::laws`]).
     ///
     /// A completion that names no command ends the call ([`Why::Stray`]): the host stops the drive, and closes the lane by [`HostMediator::close`].
     /// Nothing is taken for a lane that was closed. The host then writes its doorbells, from [`HostMediator::tail`] and [`HostMediator::head`].

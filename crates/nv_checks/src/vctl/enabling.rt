@@ -140,15 +140,19 @@ fn registers_read_what_was_written(rt: HostRuntime) -> Result<(), Fail> {
     Ok(())
 }
 
-// Whether enabling fails with a value of a register, and then, after a reset, does not with the other.
-fn fails_then_works(desk: &mut Desk, offset: u32, wrong: u32, right: u32) -> bool {
+// Whether enabling fails with a value of a register, until a reset.
+fn fails_with(desk: &mut Desk, offset: u32, wrong: u32) -> bool {
     desk.vctl.reg_write(offset, wrong, &desk.map)
         && desk.vctl.reg_write(0x14, 1, &desk.map)
         && desk.vctl.reg_read(0x1c) == Some(2)
         && !desk.vctl.is_ready()
         && desk.vctl.reg_write(0x14, 0, &desk.map)
         && desk.vctl.reg_read(0x1c) == Some(0)
-        && desk.vctl.reg_write(offset, right, &desk.map)
+}
+
+// Whether it works with a value of a register, until a reset.
+fn works_with(desk: &mut Desk, offset: u32, right: u32) -> bool {
+    desk.vctl.reg_write(offset, right, &desk.map)
         && desk.vctl.reg_write(0x14, 1, &desk.map)
         && desk.vctl.reg_read(0x1c) == Some(1)
         && desk.vctl.reg_write(0x14, 0, &desk.map)
@@ -161,7 +165,8 @@ fn enabling_fails_with_wrong_registers(rt: HostRuntime) -> Result<(), Fail> {
         // both queues at the start of the map, with two slots each
         assert!(rt;
             desk.vctl.reg_write(0x24, 0x0001_0001, &desk.map)
-                && fails_then_works(&mut desk, *offset, *wrong, *right),
+                && fails_with(&mut desk, *offset, *wrong)
+                && works_with(&mut desk, *offset, *right),
             "register {offset:x} with {wrong:x} and {right:x}"
         );
     }

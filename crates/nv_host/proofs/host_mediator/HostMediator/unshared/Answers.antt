@@ -1,4 +1,4 @@
-use Rattle.std.proofs.Common.{◌≡◌, ◌∙◌, ◌+◌, ◌-◌, ◌<◌, ◌≤◌, ℕ, List, Some, arith, ap, length, refl, slice_get, subst, sym}
+use Rattle.std.proofs.Common.{◌≡◌, ◌∙◌, ◌-◌, ◌<◌, ℕ, Some, arith, ap, length, refl, slice_get, subst, sym}
 use Rattle.std.proofs.lemmas.Option.{none-some}
 use Rattle.nv_core.proofs.GroupWorlds.{looked-up}
 use Rattle.nv_host.proofs.Unshared.{left-enough, next-counted}
