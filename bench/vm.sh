@@ -80,6 +80,13 @@ quietly() {
     }
 }
 
+# Gets Debian's lists of packages, once a run.
+refresh_lists() {
+    [[ -z ${refreshed:-} ]] || return 0
+    apt-get update > "$room/apt" 2>&1 || stop "Debian's lists of packages could not be had: $(tail -n 1 "$room/apt")"
+    refreshed=1
+}
+
 # Installs what is missing of files, each with the package of Debian that has it: PATH:PACKAGE, or a command's name for its path.
 need() {
     local it missing=()
@@ -88,6 +95,7 @@ need() {
     done
     [[ ${#missing[@]} != 0 ]] || return 0
     echo "bench/vm.sh: Debian's packages are installed: ${missing[*]}"
+    refresh_lists
     apt-get install -y --no-install-recommends "${missing[@]}" > "$room/apt" 2>&1 || stop "they could not be installed: ${missing[*]}"
 }
 

@@ -19,6 +19,7 @@ get_kernel() {
     local package it
     ! has_kernel || return 0
     mkdir -p "$cache"
+    refresh_lists
     package=$(apt-cache depends linux-image-amd64 | sed -n 's/.*Depends: //p' | head -n 1)
     (cd "$room" && apt-get download "$package" > apt 2>&1) || stop "the kernel's package could not be had: $package"
     dpkg -x "$room/$package"*.deb "$room/kernel"
