@@ -117,6 +117,15 @@ inject-error.0.sector=$sector,inject-error.0.errno=5,inject-error.0.once=off"
     end_drive
 }
 
+# Waits until guest_live has its Reads; not after half a minute.
+is_busy() {
+    for _ in $(seq 300); do
+        ! grep -qFx busy "$room/busy" || return 0
+        sleep 0.1
+    done
+    return 1
+}
+
 # A drive that needs 1.6 seconds for a guest's 16 Reads: the guest's reset, and its next QEMU, wait for them. A guest's shutdown doesn't wait for those of
 # another that always has some.
 late() {
@@ -131,8 +140,10 @@ late() {
     begin_drive -drive file="$room/image",format=raw,if=none,id=disk,throttling.iops-total=10
     begin_host "$room/configuration"
     check "no Read gets into a guest's memory after its reset" quietly "$top/host/out/guest_live" resets "$shared/guest0" "$shared/ram0"
+    : > "$room/busy"
     "$top/host/out/guest_live" busy "$shared/guest1" "$shared/ram1" > "$room/busy" &
     busy=$!
+    check "another guest is busy" is_busy
     check "a guest shuts down while another is busy" quietly "$top/host/out/guest_live" shuts "$shared/guest0" "$shared/ram0"
     kill "$busy"
     check "the other one ends" wait "$busy"

@@ -168,12 +168,14 @@ static void begin_reads(drive *d) {
     CHECK_MORE(drive_ring_submission(d, 0, lanes[0].tail, &r), r.text);
 }
 
-/* In place of each Read that ends the drive gets another. */
+/* In place of each Read that ends the drive gets another. A line is printed once it has the first ones. */
 static void busy(proxied *p) {
     lane_state *l = &lanes[0];
     drive *d = begin_drive(p);
     if (!d) return;
     begin_reads(d);
+    puts("busy");
+    fflush(stdout);
     const volatile uint8_t *done;
     for (bool good = true; good && (done = take(l)) != NULL;) {
         put_read(done[12] % LATE_READS);

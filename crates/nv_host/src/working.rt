@@ -349,8 +349,7 @@ impl HostMediator {
         Worked::after(done, rest)
     }
 
-    // A turn of a guest's queues. A guest that isn't noted is passed by, and one of whom nothing was due isn't noted any more, unless that may change with
-    // what is in memory.
+    // A turn of a guest's queues. A guest that isn't noted is passed by, and one of whom nothing is due whatever is in memory isn't noted any more.
     fn serve_queues<C: MemoryCell>(
         &mut self,
         alloc: Global,
@@ -367,14 +366,18 @@ impl HostMediator {
         ensures setup { self.new.setup ≡ self.old.setup }
         ensures len { length (C.bytes memory.new) ≡ length (C.bytes memory.old) }
     {
+        self.settle(guest);
         if !self.front.is_noted(guest) {
             return Worked::so_far(0);
         }
-        let served = self.serve_noted(alloc, guest, turn, most, memory);
-        if served.is_last() {
-            self.front.settle(guest);
-        }
-        served
+        self.serve_noted(alloc, guest, turn, most, memory)
+    }
+
+    // The guest isn't noted any more, where nothing is due of its queues whatever is in memory.
+    fn settle(&mut self, guest: u8)
+        ensures { self.new ≡ self.old }
+    {
+        self.front.settle(guest);
     }
 
     // The same of a guest that is noted.

@@ -1,4 +1,4 @@
-use Rattle.std.proofs.Common.{refl, subst}
+use Rattle.std.proofs.Common.{ℕ, List, ap, ◌∙◌, subst}
 use Rattle.nv_core.specs.Noted.{Rests}
 use Rattle.nv_host.proofs.Queues.{quiet-rests}
 use Rattle.nv_host.proofs.Rounds.{pass-none}
@@ -10,6 +10,8 @@ use Rattle.nv_host.proofs.host_mediator.HostMediator.serve_queues.Goals as goal
 
 pub returns-then-not-is_noted-clause-pass : goal.returns-then-not-is_noted-clause-pass
 returns-then-not-is_noted-clause-pass g c =
-    let a : Scene = scene c.args.self.now (g.C.MemoryCell.bytes c.args.memory.now) in
-    pass-none (scope.Guest c.args.guest) (QueuesRest a c.args.guest) c.args.most c.so_far.result a a c.so_far.ensures refl
-    (quiet-rests a c.args.guest (subst (λ (x : Served). Rests c.args.guest x.side) c.self.view_is (c.is_noted.ensures c.if-not-is_noted.true)))
+    let memory : List ℕ = g.C.MemoryCell.bytes c.args.memory.now in
+    let a : Scene = scene c.args.self.now memory in
+    pass-none (scope.Guest c.args.guest) (QueuesRest a c.args.guest) c.args.most c.so_far.result a (scene c.settle.new.self memory) c.so_far.ensures
+    (ap (λ (x : Served). scene x memory) c.settle.ensures)
+    (quiet-rests a c.args.guest (subst (λ (x : Served). Rests c.args.guest x.side) (c.self.view_is ∙ c.settle.ensures) (c.is_noted.ensures c.if-not-is_noted.true)))
