@@ -1,7 +1,7 @@
 -- A command that waits for its plan, while its lists are read.
 use Rattle.std.proofs.Common.{◌≡◌, ◌∙◌, sym, ap, subst, ℕ, List, slice_get, Option, Some, is_some, true, refl}
 use Rattle.std.specs.Option.{option_map}
-use Rattle.nv_c.proofs.ListJobs.{job_read, list-job}
+use Rattle.nv_c.proofs.ListJobs.{list-job}
 use Rattle.nv_c.proofs.Rests.{own-job}
 use Rattle.nv_c.proofs.Works.{leads_one}
 use Rattle.nv_c.specs.Work.{IsIn, IsReading, IsWaiting, IsWork, Leads, MayGiveUp, Rests}
@@ -9,6 +9,7 @@ use Rattle.nv_c.specs.declared.working.Scope.{Scope}
 use Rattle.nv_c.specs.declared.working.Scope.TheVariants as scope
 use Rattle.nv_core.specs.Jobs.{holder_of, job_of}
 use Rattle.nv_core.specs.declared.holding.Holder.{Holder}
+use Rattle.nv_host.proofs.ListJobs.{job_read}
 use Rattle.nv_mediator.specs.Hosted.{Hosted, IsMade, hosted_world}
 use Rattle.nv_model.specs.Transcript.{Outcome, ReadDone, Settled, Wanted}
 use Rattle.nv_model.specs.declared.reply.Reply.{Reply}

@@ -101,6 +101,13 @@ module _ (geometry : Geometry) (w : World) (lane tag addr len : ℕ) (job : Job)
       by_leader false leads is e = absurd (none-some job is)
       by_leader true leads is e = by_owner command reads (owner_of geometry w command.guest) at leads is e
 
+  -- so it is of the event's step
+  pub step-job : job_of w lane tag ≡ Some job
+      → (let a : After = record { world = after; reply = reply.Bytes bytes } in a) ≡ step geometry (event.List lane tag addr len) w
+      → job_of after lane tag ≡ Some (job_read job addr bytes)
+  unfolding step
+  step-job is e = by_tag (tag_of w lane tag) refl is e
+
 -- ---- places
 
 job-placed : (lane tag : ℕ) (t : Option Tag) → job_in lane tag (option_map unplaced_tag t) ≡ job_in lane tag t
