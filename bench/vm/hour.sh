@@ -51,7 +51,8 @@ run() {
     check "guest 1" has_passed 1
     check "guest 2, which is hostile, has its controller still" hostile_ended
     check "the host program" end_host
-    check "its memory is constant from minute $steady on" is_constant 4 "$growth"
+    # under valgrind most of it is valgrind's
+    [[ ${#wrapper[@]} != 0 ]] || check "its memory is constant from minute $steady on" is_constant 4 "$growth"
     check "so are its descriptors" is_constant 8 0
     check "the blocks that are no guest's" gaps_are_painted
     echo "rounds of guests 0 and 1: $(grep -c '^round ' "$room/serial.0"), $(grep -c '^round ' "$room/serial.1")"
