@@ -61,7 +61,8 @@ module _ (a s : SetUp) (same : s ≡ a) (g : Geometry) (side : Side) (is : g ≡
       ∙ ap (λ (ns : List ℕ). with_parts s.geometry (opening_side s.geometry s.lanes) (replicate s.lanes false) ns) equal
       ∙ ap opened same
 
-  pub starts-served : (left : ℕ) → left + needed_in_all s.geometry.guests ≡ tag_count → IsAccepted a → ((number : ℕ) (guest : Guest) → slice_get g.guests number ≡ Some guest → IsSound guest.memory_map) → IsServed made
+  pub starts-served : (left : ℕ) → left + needed_in_all s.geometry.guests ≡ tag_count → IsAccepted a
+      → ((number : ℕ) (guest : Guest) → slice_get g.guests number ≡ Some guest → IsSound guest.memory_map) → IsServed made
   starts-served left all accepted sound =
       record {
         accepted = subst IsAccepted (sym same ∙ sym setup-is) accepted;

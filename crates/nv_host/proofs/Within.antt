@@ -1,4 +1,4 @@
--- `HostMediator::work` leaves each guest within its share of a lane.
+-- `HostMediator::work` leaves a guest within its share of a lane.
 use Rattle.std.proofs.Common.{◌≡◌, ℕ, ◌+◌, ◌≤◌, ◌&&◌, ◌==◌, nat_le, Bool, true, false, cond, List, [], ◌∷◌, slice_get, Some}
 use Rattle.std.specs.Bool.{⊤}
 use Rattle.std.proofs.Common.{arith, refl, sym, ap, ◌∙◌, subst, eqb-true, leb-true}
@@ -6,7 +6,7 @@ use Rattle.nv_core.specs.Held.{held_in}
 use Rattle.nv_host.proofs.Works.{made-next, own-beside}
 use Rattle.nv_host.specs.Served.{IsNext, Served, has_share, is_offered}
 use Rattle.nv_host.specs.Shares.{is_within, most_given, most_needed, needed_of}
-use Rattle.nv_host.specs.Sharing.{AreWithin}
+use Rattle.nv_host.specs.Sharing.{IsWithin}
 use Rattle.nv_host.specs.Work.{AreMade, HasEnded, IsMade, IsWork, Leads, Scene}
 use Rattle.nv_host.specs.declared.worked.Scope.{Scope}
 use Rattle.nv_host.specs.declared.worked.Why.{Why}
@@ -19,31 +19,31 @@ use Rattle.nv_world_model.specs.SetUp.{SetUp}
 use Rattle.nv_world_model.specs.declared.event.Event.{Event}
 use Rattle.nv_world_model.specs.declared.event.Event.TheVariants as event
 
-module _ (lane : ℕ) where
+module _ (guest lane : ℕ) where
   -- ---- one event
 
-  -- a guest has room in its share for what an event gives it
+  -- the guest has room in its share for what an event gives it
   abbrev IsRoomy : Event → Served → Type 0
   IsRoomy e h =
-      (guest : ℕ) (given : Guest) (spare : ℕ) → slice_get h.setup.geometry.guests guest ≡ Some given → slice_get h.spare guest ≡ Some spare
+      (given : Guest) (spare : ℕ) → slice_get h.setup.geometry.guests guest ≡ Some given → slice_get h.spare guest ≡ Some spare
       → held_in guest (slice_get h.side.lanes lane) + most_given h.setup.geometry.guests e guest lane ≤ most_needed given + spare
 
   next-within : (e : Event) (old new : Served) (before : List ℕ) (r : Reply) (after : List ℕ) → IsNext e old before r new after → IsRoomy e old
-      → AreWithin lane new
-  next-within e old new before r after next room = λ guest given spare at there.
+      → IsWithin guest lane new
+  next-within e old new before r after next room = λ given spare at there.
       (let fits =
-      room guest given spare (ap (λ (s : SetUp). slice_get s.geometry.guests guest) (sym next.setup) ∙ at)
+      room given spare (ap (λ (s : SetUp). slice_get s.geometry.guests guest) (sym next.setup) ∙ at)
       (ap (λ (spares : List ℕ). slice_get spares guest) (sym next.spare) ∙ there) in
       let most = next.tags guest lane in
       omega (arith, fits, most))
 
   -- a command is taken of a guest whose share has room
-  take-room : (h : Served) (number on guest : ℕ) (given : Guest) (spare : ℕ) → has_share h number on ≡ true
+  take-room : (h : Served) (number on : ℕ) (given : Guest) (spare : ℕ) → has_share h number on ≡ true
       → slice_get h.setup.geometry.guests guest ≡ Some given → slice_get h.spare guest ≡ Some spare
       → held_in guest (slice_get h.side.lanes lane) ≤ most_needed given + spare → (b : Bool) → (guest == number && lane == on) ≡ b
       → held_in guest (slice_get h.side.lanes lane) + cond b (needed_of (slice_get h.setup.geometry.guests guest)) 0 ≤ most_needed given + spare
-  take-room h number on guest given spare share at there within false is = omega (arith, within)
-  take-room h number on guest given spare share at there within true is =
+  take-room h number on given spare share at there within false is = omega (arith, within)
+  take-room h number on given spare share at there within true is =
       (let both = and-true (guest == number) (lane == on) is in
       let own : has_share h guest lane ≡ true =
       ap (λ (n : ℕ). has_share h n lane) (eqb-true guest number both.0) ∙ ap (has_share h number) (eqb-true lane on both.1) ∙ share in
@@ -58,10 +58,10 @@ module _ (lane : ℕ) where
   HasOwnShare (event.Take guest queue on) h = has_share h guest on ≡ true
   HasOwnShare _ h = ⊤
 
-  roomy : (e : Event) (h : Served) → HasOwnShare e h → AreWithin lane h → IsRoomy e h
-  roomy (event.Take number queue on) h share within = λ guest given spare at there.
-      take-room h number on guest given spare share at there (within guest given spare at there) (guest == number && lane == on) refl
-  roomy e h share within = λ guest given spare at there. (let fits = within guest given spare at there in omega (arith, fits))
+  roomy : (e : Event) (h : Served) → HasOwnShare e h → IsWithin guest lane h → IsRoomy e h
+  roomy (event.Take number queue on) h share within = λ given spare at there.
+      take-room h number on given spare share at there (within given spare at there) (guest == number && lane == on) refl
+  roomy e h share within = λ given spare at there. (let fits = within given spare at there in omega (arith, fits))
 
   own-share : (sc : Scope) (s : Scene) (e : Event) → IsWork sc s e → HasOwnShare e s.served
   own-share sc s (event.Take guest queue on) work =
@@ -69,23 +69,23 @@ module _ (lane : ℕ) where
       (work.due_now (own-world s.served.side s.memory) (own-beside s)).0).1
   own-share sc s e work = tt
 
-  made-within : (e : Event) (a : Scene) (r : Reply) (b : Scene) → IsMade e a r b → HasOwnShare e a.served → AreWithin lane a.served → AreWithin lane b.served
+  made-within : (e : Event) (a : Scene) (r : Reply) (b : Scene) → IsMade e a r b → HasOwnShare e a.served → IsWithin guest lane a.served → IsWithin guest lane b.served
   made-within e a r b made share within =
       next-within e a.served b.served a.memory r b.memory (made-next e a r b made) (roomy e a.served share within)
 
   -- ---- a call
 
-  all-within : (sc : Scope) (es : List Event) (a b : Scene) → AreMade sc es a b → AreWithin lane a.served → AreWithin lane b.served
+  all-within : (sc : Scope) (es : List Event) (a b : Scene) → AreMade sc es a b → IsWithin guest lane a.served → IsWithin guest lane b.served
   unfolding AreMade
-  all-within sc [] a b made within = subst (λ (s : Scene). AreWithin lane s.served) (sym made) within
+  all-within sc [] a b made within = subst (λ (s : Scene). IsWithin guest lane s.served) (sym made) within
   all-within sc (e ∷ es) a b made within =
       all-within sc es made.2 b made.4 (made-within e a made.1 made.2 made.3 (own-share sc a e made.0) within)
 
-  leads-within : (sc : Scope) (count : ℕ) (a b : Scene) → Leads sc count a b → AreWithin lane a.served → AreWithin lane b.served
+  leads-within : (sc : Scope) (count : ℕ) (a b : Scene) → Leads sc count a b → IsWithin guest lane a.served → IsWithin guest lane b.served
   leads-within sc count a b leads within = all-within sc leads.events a b leads.made within
 
   pub ended-keeps : (sc : Scope) (most done : ℕ) (enough : Type 0) (y : Why) (a b : Scene) → HasEnded sc most done enough y a b
-      → AreWithin lane a.served → AreWithin lane b.served
+      → IsWithin guest lane a.served → IsWithin guest lane b.served
   ended-keeps sc most done enough why.Enough a b ended within = leads-within sc done a b ended.0 within
   ended-keeps sc most done enough why.Starved a b ended within = leads-within sc done a b ended.0 within
   ended-keeps sc most done enough why.GaveUp a b ended within =

@@ -33,11 +33,15 @@ IsShareRefused guest tags h refusal.TooLarge =
     (given : Guest) × MayHave guest tags h given
     × (tag_count < needed_in_all h.setup.geometry.guests + sum (with_share guest tags given h).spare)
 
--- no guest has more tags of a lane than its share
-abbrev pub AreWithin : (lane : ℕ) → Served → Type 0
-AreWithin lane h =
-    (guest : ℕ) (given : Guest) (spare : ℕ) → slice_get h.setup.geometry.guests guest ≡ Some given → slice_get h.spare guest ≡ Some spare
+-- a guest has no more tags of a lane than its share
+abbrev pub IsWithin : (guest lane : ℕ) → Served → Type 0
+IsWithin guest lane h =
+    (given : Guest) (spare : ℕ) → slice_get h.setup.geometry.guests guest ≡ Some given → slice_get h.spare guest ≡ Some spare
     → held_in guest (slice_get h.side.lanes lane) ≤ most_needed given + spare
+
+-- no guest has
+abbrev pub AreWithin : (lane : ℕ) → Served → Type 0
+AreWithin lane h = (guest : ℕ) → IsWithin guest lane h
 
 -- a command of a guest's queue waits, and its share of a lane that is open has room for it
 pub record HasRoom (guest queue lane : ℕ) (h : Served) : Type 0 where

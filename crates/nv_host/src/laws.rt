@@ -2,7 +2,7 @@
 
 ghost use Rattle.std.specs.Prelude.{ℕ, List};
 ghost use Rattle.nv_host.specs.Served.{IsServed, Served};
-ghost use Rattle.nv_host.specs.Sharing.{AreWithin, HasRoom};
+ghost use Rattle.nv_host.specs.Sharing.{AreWithin, HasRoom, IsWithin};
 ghost use Rattle.nv_host.specs.Work.{IsWork, IsWorked, Scene, scene};
 ghost use Rattle.nv_host.specs.declared.worked.Scope.{Scope};
 ghost use Rattle.nv_host.specs.declared.worked.Scope.TheVariants as scope;
@@ -17,9 +17,9 @@ pub fn a_share_with_room_has_its_command_taken()
         IsWork (scope.Guest guest) (scene h memory) (event.Take guest queue lane) }
 {}
 
-/// A call of [`crate::HostMediator::work`] leaves each guest within its share of a lane where it was before. So a guest that only this call takes
-/// commands of never has more tags of a lane than its share.
+/// A guest that has no more than its share of a lane has no more after a call of [`crate::HostMediator::work`], whatever others have and do. A share that
+/// is set below what the guest has already is no such.
 pub fn work_keeps_each_guest_within_its_share()
-    ensures { (sc : Scope) (most : ℕ) (worked : Worked) (old new : Scene) (lane : ℕ) → IsWorked sc most worked old new → AreWithin lane old.served →
-        AreWithin lane new.served }
+    ensures { (sc : Scope) (most : ℕ) (worked : Worked) (old new : Scene) (guest lane : ℕ) → IsWorked sc most worked old new →
+        IsWithin guest lane old.served → IsWithin guest lane new.served }
 {}
