@@ -4,14 +4,14 @@
 # What is installed is libnvmed.a, nvmed.h and nvmed.pc. The archive is one object: the library's archive, and what that needs of the toolchain's own
 # archive for memory. It links with the C library alone, and its only global names are the functions that nvmed.h declares.
 #
-# The programs are built against a copy that is installed in a folder of this run, with the words of pkg-config: host.c and hosting.c of examples/, c.c
-# and serve.c of bench/wrong/ and bench/shares.c in C11 and as C++17, examples/threads.c in C11, examples/host.cc in C++17, examples/host.rs in Rust, with warnings as
-# errors. A check is one of these programs in one of the languages, run once: what it prints must be its .expected file, and under valgrind there must be
-# no error and no leak. Further checks are the C programs with sanitizers of addresses and of undefined behaviour, that with threads with
-# ThreadSanitizer, too, examples/host.c with the C library alone beside functions that have names of the toolchain's archive, and two of the
-# installation. Each check that fails is named, and what could not be run on this machine is named as left out: without clang, cc and c++ are taken, and
-# without rustc, valgrind or sanitizers their checks are left out. Without pkg-config the copy is named by its paths. The last line is 'N passed, M
-# failed', and the status is 0 where M is 0.
+# The programs are built against a copy that is installed in a folder of this run, with the words of pkg-config: host.c and hosting.c of examples/, c.c and
+# serve.c of bench/wrong/ and bench/shares.c in C11 and as C++17, examples/threads.c and bench/racing.c in C11, examples/host.cc in C++17, examples/host.rs in
+# Rust, with warnings as errors. A check is one of these programs in one of the languages, run once: what it prints must be its .expected file, and under
+# valgrind there must be no error and no leak. Further checks are the C programs with sanitizers of addresses and of undefined behaviour, threads.c with
+# ThreadSanitizer, too (the races of racing.c are wanted), examples/host.c with the C library alone beside functions that have names of the toolchain's
+# archive, and two of the installation. Each check that fails is named, and what could not be run on this machine is named as left out: without clang, cc and
+# c++ are taken, and without rustc, valgrind or sanitizers their checks are left out. Without pkg-config the copy is named by its paths. The last line is 'N
+# passed, M failed', and the status is 0 where M is 0.
 #
 #     bench/c.sh                     builds the library by rt lib, which proves what is not proved yet, and does all of the above
 #     bench/c.sh install PREFIX      installs it below PREFIX, or below DESTDIR and PREFIX where DESTDIR is set, and runs nothing
@@ -193,9 +193,13 @@ prints() {
     diff "$1" "$room/out" && [[ $status == 0 ]]
 }
 
-# The checks of a program in a language: its file, the file that has what it must print, the language, and further words for the compiler.
+# The words for a program that would take too long under valgrind.
+declare -A short=([bench/racing.c]=short)
+
+# The checks of a program in a language: its file, the file that has what it must print, the language, and further words for the compiler. Valgrind runs
+# one thread at a time; all get their turns.
 check_program() {
-    local program=$room/${1##*/}-$3 valgrind=(valgrind --quiet --leak-check=full --show-leak-kinds=all --error-exitcode=9)
+    local program=$room/${1##*/}-$3 valgrind=(valgrind --quiet --fair-sched=yes --leak-check=full --show-leak-kinds=all --error-exitcode=9)
     # what Rust's own runtime keeps until the end is no leak
     [[ $3 != rust ]] || valgrind+=(--show-leak-kinds=definite --errors-for-leak-kinds=definite)
     if ! build "$top/$1" "$3" "$program" "${@:4}"; then
@@ -205,7 +209,7 @@ check_program() {
     fi
     check "$1, built by the compiler of $3" prints "$top/$2" "$program"
     if command -v valgrind > /dev/null; then
-        check "$1, built by the compiler of $3, under valgrind" prints "$top/$2" "${valgrind[@]}" "$program"
+        check "$1, built by the compiler of $3, under valgrind" prints "$top/$2" "${valgrind[@]}" "$program" ${short[$1]:+"${short[$1]}"}
     fi
 }
 
@@ -290,6 +294,7 @@ for language in c cxx rust; do
             ;;&
         c)
             check_program examples/threads.c examples/threads.expected c -pthread
+            check_program bench/racing.c bench/racing.expected c -pthread
             check "examples/host.c with the C library alone" is_alone
             ;;
         cxx) check_program examples/host.cc examples/host.cc.expected cxx ;;
@@ -304,6 +309,7 @@ if [[ -n $it ]]; then
     check "bench/wrong/c.c with sanitizers" sanitized bench/wrong/c.c bench/wrong/c.expected "$it" "${sanitizers[@]}"
     check "bench/wrong/serve.c with sanitizers" sanitized bench/wrong/serve.c bench/wrong/serve.expected "$it" "${sanitizers[@]}"
     check "bench/shares.c with sanitizers" sanitized bench/shares.c bench/shares.expected "$it" "${sanitizers[@]}"
+    check "bench/racing.c with sanitizers" sanitized bench/racing.c bench/racing.expected "$it" "${sanitizers[@]}" -pthread
 else
     say "no compiler of C has sanitizers: left out are the checks with them"
 fi

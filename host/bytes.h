@@ -2,8 +2,16 @@
 #ifndef HOST_BYTES_H
 #define HOST_BYTES_H
 
+#include <stdatomic.h>
+#include <stddef.h>
 #include <stdint.h>
 #include <string.h>
+
+/* Copies bytes that another may change at any moment: from here on only the copy counts, also for the compiler. */
+static inline void copy_once(uint8_t *to, const uint8_t *from, size_t bytes) {
+    memcpy(to, from, bytes);
+    atomic_signal_fence(memory_order_seq_cst);
+}
 
 static inline uint16_t get16(const uint8_t *at) { return (uint16_t)(at[0] | at[1] << 8); }
 

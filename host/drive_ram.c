@@ -6,6 +6,7 @@
 #include <stdio.h>
 #include <stdlib.h>
 #include <string.h>
+#include <sys/file.h>
 #include <sys/mman.h>
 #include <sys/stat.h>
 #include <unistd.h>
@@ -135,7 +136,7 @@ static unsigned manage(ram *d, const uint8_t *entry) {
     uint32_t length = (entry[40] + 1u) * RANGE;
     unsigned status = find_places(d, entry, length, places, &count);
     if (status != GOOD) return status;
-    for (unsigned i = 0; i < count; used += places[i].length, i++) memcpy(ranges + used, places[i].at, places[i].length);
+    for (unsigned i = 0; i < count; used += places[i].length, i++) copy_once(ranges + used, places[i].at, places[i].length);
     if (!(get32(entry + 44) & DEALLOCATE)) return GOOD;
     for (const uint8_t *r = ranges; r < ranges + length; r += RANGE)
         if (!has_blocks(d, get64(r + 8), get32(r + 4))) return OUT_OF_RANGE;
@@ -180,7 +181,7 @@ static bool serve(ram *d, unsigned lane) {
     uint8_t entry[ENTRY];
     if (p->head == p->tail || (p->posted + 1) % p->rings.completion_slots == p->acknowledged) return false;
     atomic_thread_fence(memory_order_acquire);
-    memcpy(entry, window_at(d->memory, p->rings.submission + (uint64_t)p->head * ENTRY, ENTRY), ENTRY);
+    copy_once(entry, window_at(d->memory, p->rings.submission + (uint64_t)p->head * ENTRY, ENTRY), ENTRY);
     p->head = (p->head + 1) % p->rings.submission_slots;
     post(d, lane, get16(entry + 2), carry_out(d, entry));
     return true;
@@ -234,6 +235,8 @@ static int open_image(const char *path, uint64_t bytes, reason *r) {
         refuse(r, "%.120s: is no regular file", path);
     } else if (fcntl(fd, F_SETLK, &whole)) {
         refuse(r, "%.120s: is used by another process", path);
+    } else if (flock(fd, LOCK_EX | LOCK_NB)) { /* also against this process: a guest's memory */
+        refuse(r, "%.120s: is used already, by this name or another", path);
     } else if ((error = posix_fallocate(fd, 0, (off_t)bytes)) != 0) {
         refuse(r, "%.120s: cannot have %" PRIu64 " bytes: %s", path, bytes, strerror(error));
     } else {

@@ -29,11 +29,13 @@ static bool set_up(int fd) {
     return flags >= 0 && fcntl(fd, F_SETFL, flags | O_NONBLOCK) == 0;
 }
 
-interrupt_result interrupt_take(interrupt *i, int raise, int resample) {
+interrupt_result interrupt_take(interrupt *i, int raise, int resample, closing *c) {
     interrupt_close(i);
-    *i = (interrupt){.raise = raise, .resample = resample};
-    if (set_up(raise) && set_up(resample)) return INTERRUPT_GOOD;
-    interrupt_close(i);
+    if (set_up(raise) && set_up(resample)) {
+        *i = (interrupt){.raise = raise, .resample = resample};
+        return INTERRUPT_GOOD;
+    }
+    closing_give(c, (const int[]){raise, resample}, 2);
     return INTERRUPT_STRANGE;
 }
 

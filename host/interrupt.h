@@ -5,6 +5,8 @@
 
 #include <stdbool.h>
 
+#include "closing.h"
+
 typedef struct interrupt {
     int raise;    /* writing it raises the interrupt; -1: there is none */
     int resample; /* it can be read once the guest has acknowledged it; -1: there is none */
@@ -20,8 +22,8 @@ typedef enum interrupt_result {
 /* No interrupt. */
 void interrupt_begin(interrupt *i);
 
-/* Takes two descriptors, which are the interrupt's from now on, in place of those before. Both have to be eventfds, or else none is kept. */
-interrupt_result interrupt_take(interrupt *i, int raise, int resample);
+/* Takes two descriptors, which are the interrupt's from now on, in place of those before. Both have to be eventfds, or else none is kept, and `c` closes them. */
+interrupt_result interrupt_take(interrupt *i, int raise, int resample, closing *c);
 
 /* Sets the level: the interrupt is raised where it is wanted and was not raised since the last acknowledgement.
  *

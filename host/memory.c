@@ -5,8 +5,10 @@
 #include <inttypes.h>
 #include <stdio.h>
 #include <string.h>
+#include <sys/file.h>
 #include <sys/mman.h>
 #include <sys/stat.h>
+#include <sys/sysmacros.h>
 #include <unistd.h>
 
 bool memory_reserve(memory_row *row, uint64_t length, reason *r) {
@@ -46,6 +48,8 @@ static int open_file(const char *path, uint64_t length, reason *r) {
     }
     if (fstat(fd, &about) || !S_ISREG(about.st_mode)) {
         refuse(r, "%.120s: is no regular file", path);
+    } else if (flock(fd, LOCK_EX | LOCK_NB)) { /* as long as it is mapped */
+        refuse(r, "%.120s: is used already, by this name or another", path);
     } else if (about.st_size != 0 && (uint64_t)about.st_size != length) {
         refuse(r, "%.120s: has %" PRIu64 " bytes, not %" PRIu64, path, (uint64_t)about.st_size, length);
     } else if (about.st_size == 0 && ftruncate(fd, (off_t)length)) {
@@ -85,9 +89,14 @@ void memory_close(memory_file *m) {
 
 void memory_path(const memory_file *m, char *path, size_t bytes) { snprintf(path, bytes, "/proc/%ld/fd/%d", (long)getpid(), m->fd); }
 
+bool memory_is(const memory_file *m, int fd) {
+    struct statx about;
+    if (m->fd < 0 || fd < 0 || statx(fd, "", AT_EMPTY_PATH | AT_STATX_DONT_SYNC, STATX_INO, &about)) return false;
+    return makedev(about.stx_dev_major, about.stx_dev_minor) == m->device && about.stx_ino == m->inode;
+}
+
 bool memory_holds(const memory_file *m, const proxy_region *region, uint64_t *host) {
-    struct stat about;
-    if (m->fd < 0 || fstat(region->fd, &about) || about.st_dev != m->device || about.st_ino != m->inode) return false;
+    if (!memory_is(m, region->fd)) return false;
     if (region->offset > m->length || region->length > m->length - region->offset) return false;
     *host = m->address + region->offset;
     return true;

@@ -36,8 +36,8 @@ bool memory_reserve(memory_row *row, uint64_t length, reason *r);
 void memory_release(memory_row *row);
 
 /* Makes or opens a file of `length` bytes, and maps it at the host address `address`; both are multiples of 4,096. `path` NULL: a sealed file of its
- * own, of zeros. Else that file: it is made where there is none, made longer where it is empty, and refused where it has another length. Refused, too,
- * is a place outside of the row or where a file lies. Where it fails nothing is left open or mapped. */
+ * own, of zeros. Else that file: it is made where there is none, made longer where it is empty, and refused where it has another length, or where it is mapped
+ * already, by any of its names, here or by another such process. Refused, too, is a place outside of the row or where a file lies. Where it fails nothing is left open or mapped. */
 bool memory_add(memory_file *m, memory_row *row, const char *path, uint64_t address, uint64_t length, reason *r);
 
 /* Closes the file's descriptor. What is mapped stays until memory_release. */
@@ -45,6 +45,9 @@ void memory_close(memory_file *m);
 
 /* The path by which another process of this user opens the file, such as for mem-path of QEMU, while this process has it. */
 void memory_path(const memory_file *m, char *path, size_t bytes);
+
+/* Whether a descriptor is of this file. It never waits: what the kernel knows of the file already counts, and no file system is asked. */
+bool memory_is(const memory_file *m, int fd);
 
 /* Whether a region that QEMU named is of this file and within it: only then its host address is *host. No other file is ever mapped. */
 bool memory_holds(const memory_file *m, const proxy_region *region, uint64_t *host);

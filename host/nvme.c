@@ -134,7 +134,7 @@ static bool wait_completion(nvme *n, const admin_command *c, uint8_t *copy, reas
         n->access.pause(n->access.context);
     }
     atomic_thread_fence(memory_order_acquire);
-    memcpy(copy, at, COMPLETION);
+    copy_once(copy, at, COMPLETION);
     return true;
 }
 
@@ -166,7 +166,7 @@ static bool identify(nvme *n, const char *name, uint32_t cns, uint32_t namespace
     memset(data, 0, PAGE_BYTES);
     admin_command c = {name, IDENTIFY, namespace, address, cns, 0};
     if (!admin(n, &c, &unused, r)) return false;
-    memcpy(copy, data, PAGE_BYTES);
+    copy_once(copy, data, PAGE_BYTES);
     return true;
 }
 

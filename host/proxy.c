@@ -14,7 +14,7 @@ enum { SYNC_SYSMEM, RET, PCI_CFGWRITE, PCI_CFGREAD, BAR_WRITE, BAR_READ, SET_IRQ
 /* Bytes of data of each: SyncSysmemMsg, u64, PciConfDataMsg, BarAccessMsg. */
 static const uint8_t data_bytes[COMMANDS] = {PROXY_DATA, 8, 12, 12, 24, 24, 0, 0};
 
-enum { PAGE = 4096 };
+enum { PAGE = 4096, TAKEN = 253 /* descriptors that one recvmsg of Linux may give: none is left for the kernel to close */ };
 
 const char *proxy_words(proxy_error e) {
     static const char *const words[PROXY_ERRORS] = {
@@ -37,20 +37,21 @@ const char *proxy_words(proxy_error e) {
     return (unsigned)e < PROXY_ERRORS ? words[e] : "an unknown error";
 }
 
-static void close_all(int *fds, unsigned count) {
-    for (unsigned i = 0; i < count; i++) {
-        if (fds[i] >= 0) close(fds[i]);
-        fds[i] = -1;
+void proxy_drop(proxy_request *q, closing *c) {
+    int fds[PROXY_FDS];
+    unsigned count = 0;
+    if (q->kind == PROXY_MEMORY) {
+        for (; count < q->memory.count; count++) {
+            fds[count] = q->memory.region[count].fd;
+            q->memory.region[count].fd = -1;
+        }
     }
-}
-
-void proxy_drop(proxy_request *q) {
-    if (q->kind == PROXY_MEMORY)
-        for (unsigned i = 0; i < q->memory.count; i++) close_all(&q->memory.region[i].fd, 1);
     if (q->kind == PROXY_INTERRUPT) {
-        close_all(&q->irq.interrupt, 1);
-        close_all(&q->irq.resample, 1);
+        fds[count++] = q->irq.interrupt;
+        fds[count++] = q->irq.resample;
+        q->irq.interrupt = q->irq.resample = -1;
     }
+    closing_give(c, fds, count);
 }
 
 proxy_error proxy_header(const uint8_t *bytes, uint32_t *command, uint32_t *size) {
@@ -127,15 +128,15 @@ proxy_error proxy_decode(const uint8_t *bytes, const int *fds, unsigned count, p
 
 /* An error stays. What the connection holds for messages that no one will take is closed at once. */
 static proxy_error fail(proxy *p, proxy_error e) {
-    close_all(p->fds, p->fd_count);
+    closing_give(p->closing, p->fds, p->fd_count);
     p->fd_count = 0;
     p->partial = false;
     p->error = e;
     return e;
 }
 
-proxy_error proxy_open(proxy *p, int fd) {
-    *p = (proxy){.fd = fd};
+proxy_error proxy_open(proxy *p, int fd, closing *c) {
+    *p = (proxy){.fd = fd, .closing = c};
     if (fd < 0) return PROXY_OK;
     int flags = fcntl(fd, F_GETFL);
     if (flags >= 0 && fcntl(fd, F_SETFL, flags | O_NONBLOCK) == 0 && fcntl(fd, F_SETFD, FD_CLOEXEC) == 0) return PROXY_OK;
@@ -143,8 +144,10 @@ proxy_error proxy_open(proxy *p, int fd) {
     return p->error = PROXY_BROKEN;
 }
 
+/* With the socket the kernel closes what was sent there and not received. */
 void proxy_close(proxy *p) {
-    close_all(&p->fd, 1);
+    closing_give(p->ended ? NULL : p->closing, &p->fd, 1);
+    p->fd = -1;
     if (p->error == PROXY_OK) p->error = PROXY_CLOSED;
     fail(p, p->error);
 }
@@ -178,7 +181,7 @@ proxy_error proxy_feed(proxy *p, const uint8_t *bytes, size_t length, const int 
     if (e == PROXY_OK && length > proxy_room(p)) e = PROXY_SIZE;
     if (e == PROXY_OK && length == 0 && count > 0) e = PROXY_COUNT;
     if (e != PROXY_OK) {
-        for (unsigned i = 0; i < count; i++) close(fds[i]);
+        closing_give(p->closing, fds, count);
         return fail(p, e);
     }
     for (unsigned i = 0; i < count; i++) {
@@ -199,7 +202,7 @@ static unsigned descriptors_of(struct msghdr *h, int *fds) {
     for (struct cmsghdr *c = CMSG_FIRSTHDR(h); c; c = CMSG_NXTHDR(h, c)) {
         if (c->cmsg_level != SOL_SOCKET || c->cmsg_type != SCM_RIGHTS || c->cmsg_len < CMSG_LEN(0)) continue;
         size_t there = (c->cmsg_len - CMSG_LEN(0)) / sizeof(int);
-        for (size_t i = 0; i < there && count < PROXY_FDS; i++) memcpy(&fds[count++], CMSG_DATA(c) + i * sizeof(int), sizeof(int));
+        for (size_t i = 0; i < there && count < TAKEN; i++) memcpy(&fds[count++], CMSG_DATA(c) + i * sizeof(int), sizeof(int));
     }
     return count;
 }
@@ -208,16 +211,19 @@ proxy_error proxy_receive(proxy *p, uint64_t now) {
     uint8_t bytes[PROXY_MESSAGE];
     union {
         struct cmsghdr header;
-        uint8_t bytes[CMSG_SPACE(sizeof(int) * PROXY_FDS)];
+        uint8_t bytes[CMSG_SPACE(sizeof(int) * TAKEN)];
     } control;
     struct iovec part = {bytes, proxy_room(p)};
     struct msghdr h = {.msg_iov = &part, .msg_iovlen = 1, .msg_control = &control, .msg_controllen = sizeof control};
-    int fds[PROXY_FDS];
+    int fds[TAKEN];
     if (p->error != PROXY_OK || part.iov_len == 0) return p->error;
     ssize_t got = recvmsg(p->fd, &h, MSG_DONTWAIT | MSG_CMSG_CLOEXEC);
     if (got < 0 && (errno == EAGAIN || errno == EWOULDBLOCK || errno == EINTR)) return PROXY_OK;
     if (got < 0 && errno != ECONNRESET) return fail(p, PROXY_BROKEN);
-    if (got <= 0) return fail(p, p->partial ? PROXY_CUT : PROXY_CLOSED);
+    if (got <= 0) {
+        p->ended = got == 0;
+        return fail(p, p->partial ? PROXY_CUT : PROXY_CLOSED);
+    }
     unsigned count = descriptors_of(&h, fds);
     return proxy_feed(p, bytes, (size_t)got, fds, count, h.msg_flags & MSG_CTRUNC, now);
 }

@@ -4,13 +4,16 @@
  * little-endian. File descriptors come in an SCM_RIGHTS message beside it. QEMU waits for the reply of each message that has one, so that one is
  * outstanding at a time.
  *
- * Nothing here blocks, and no call allocates memory. After an error a connection only can be closed; nothing of another connection is concerned. */
+ * Nothing here blocks, and no call allocates memory, but to close descriptors (closing.h). After an error a connection only can be closed; nothing of another
+ * connection is concerned. */
 #ifndef HOST_PROXY_H
 #define HOST_PROXY_H
 
 #include <stdbool.h>
 #include <stddef.h>
 #include <stdint.h>
+
+#include "closing.h"
 
 enum {
     PROXY_FDS = 8,     /* descriptors of a message */
@@ -88,8 +91,8 @@ typedef struct proxy_request {
     };
 } proxy_request;
 
-/* Closes the descriptors of a request that are not -1, and makes them -1. */
-void proxy_drop(proxy_request *q);
+/* Closes the descriptors of a request that are not -1, as closing_give does, and makes them -1. */
+void proxy_drop(proxy_request *q, closing *c);
 
 /* What a header says. It needs PROXY_HEADER bytes; *size is the count of bytes that follow, at most PROXY_DATA. */
 proxy_error proxy_header(const uint8_t *bytes, uint32_t *command, uint32_t *size);
@@ -101,7 +104,9 @@ proxy_error proxy_decode(const uint8_t *bytes, const int *fds, unsigned count, p
 /* A connection. Its members are this module's. */
 typedef struct proxy {
     int fd;
+    closing *closing; /* who closes what the peer gave, and the socket; NULL: that is done at once */
     proxy_error error;
+    bool ended; /* nothing is left in the socket */
     uint8_t in[PROXY_MESSAGE];
     size_t have; /* bytes of `in` */
     int fds[PROXY_FDS];
@@ -114,9 +119,9 @@ typedef struct proxy {
     size_t out_from, out_count; /* bytes of `out`, a ring */
 } proxy;
 
-/* Begins a connection on a stream socket, which is the connection's from now on, or on -1, for a caller that feeds it itself.
+/* Begins a connection on a stream socket, which is the connection's from now on, or on -1, for a caller that feeds it itself. `c` closes what the peer gave.
  * Returns PROXY_BROKEN where the socket can't be made non-blocking: then it was closed. */
-proxy_error proxy_open(proxy *p, int fd);
+proxy_error proxy_open(proxy *p, int fd, closing *c);
 
 /* Closes the socket and all descriptors that no request has. It may be called twice. */
 void proxy_close(proxy *p);

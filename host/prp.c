@@ -18,8 +18,10 @@ static prp_status add_place(const window *memory, uint64_t address, uint32_t *le
  * of a command of 128 KiB ends on its second page at the latest: an offset of 4,088 leaves one entry on the first. */
 static prp_status add_list(const window *memory, uint64_t list, uint32_t left, prp_place *places, unsigned *count) {
     while (left > 0) {
-        const uint8_t *entry = window_at(memory, list, ENTRY);
-        if (!entry) return PRP_OUTSIDE;
+        const uint8_t *at = window_at(memory, list, ENTRY);
+        uint8_t entry[ENTRY];
+        if (!at) return PRP_OUTSIDE;
+        copy_once(entry, at, ENTRY);
         uint64_t address = get64(entry);
         if (address % PAGE_BYTES) return PRP_OFFSET;
         if (list % PAGE_BYTES == PAGE_BYTES - ENTRY && left > PAGE_BYTES) {

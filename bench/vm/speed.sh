@@ -1,4 +1,9 @@
-# A part of bench/vm.sh: fio in one Linux guest, on the program and on QEMU's own NVMe controller by turns, with the same image and the same kernel words.
+# A part of bench/vm.sh: fio in one Linux guest, on the program and on QEMU's own NVMe controller by turns, with the same image, kernel words and machine.
+#
+# QEMU's own controller lets Linux write most doorbells into memory (Doorbell Buffer Config): a doorbell's register is written only where the controller has
+# said, in memory, too, that it waits for it. With one processor QEMU 7.2's TCG leaves the guest's memory barriers out, so that such a doorbell can get lost: then
+# nothing goes on. It keeps them where a machine may have two, so both machines get one processor of two that may be there. A turn of QEMU's own that comes
+# to a halt nevertheless is said, and made again.
 # shellcheck shell=bash disable=SC2034,SC2154
 
 # shellcheck source=/dev/null
@@ -11,6 +16,10 @@ jobs=5
 least=95
 # the queue that is measured has no interrupt
 kernel_words="nvme=poll_queues=1"
+processors=(-smp "1,maxcpus=2")
+# of a turn in seconds, and how many turns of QEMU's own may be made again
+longest=120
+again=2
 
 # Commands that the drive was given, by the program's lines.
 commands() {
@@ -28,6 +37,7 @@ on_program() {
     {
         echo "drive ram $(stat -c %s "$room/image") $room/image"
         guest_lines 0 speed "$kernel_words"
+        echo "start 0 ${processors[*]}"
     } > "$room/configuration"
     begin_host "$room/configuration" --statistics
     while ((SECONDS < limit)) && kill -0 "$host" 2> /dev/null; do
@@ -40,13 +50,26 @@ on_program() {
     return "$status"
 }
 
-# A turn on QEMU's own controller.
-on_qemu() {
-    local machine
+# One turn on QEMU's own controller.
+try_qemu() {
+    local machine left=$((limit - SECONDS))
     mapfile -t machine < <(start_lines 0 speed "$kernel_words" | sed 's/^start 0 //' | tr '\n' ' ' | xargs -n 1)
     rm -f "$room/serial.0"
-    timeout $((limit > SECONDS ? limit - SECONDS : 1)) "${machine[@]}" -m "${memory}M" \
+    timeout $((left < 1 ? 1 : left < longest ? left : longest)) "${machine[@]}" "${processors[@]}" -m "${memory}M" \
         -drive file="$room/image",format=raw,if=none,id=disk -device nvme,drive=disk,serial=own,max_ioqpairs=8
+}
+
+# A turn on it, made again where it comes to a halt.
+on_qemu() {
+    local status=0
+    try_qemu || status=$?
+    while [[ $status == 124 ]] && ((again > 0 && SECONDS < limit)); do
+        again=$((again - 1))
+        echo "bench/vm.sh: a guest on QEMU's own controller did not end in $longest seconds, and had $(grep -c '^speed' "$room/serial.0") of $jobs jobs: once more"
+        status=0
+        try_qemu || status=$?
+    done
+    return "$status"
 }
 
 # Adds the figures of a turn to the file of its kind.

@@ -10,8 +10,23 @@ size_t fuzz_example(uint8_t *to, size_t most, uint64_t choice);
 
 #define MUST(good) ((good) ? (void)0 : abort())
 
+/* No two extents have a block in common, and the owner of each end of an extent is its guest. */
+static void look_at_extents(const config *c, unsigned guest) {
+    for (unsigned k = 0; k < c->guest[guest].extents; k++) {
+        const config_extent *e = &c->guest[guest].extent[k];
+        MUST(config_owner(c, e->base) == (int)guest && config_owner(c, e->base + e->blocks - 1) == (int)guest);
+        for (unsigned other = 0; other < c->guests; other++)
+            for (unsigned i = 0; i < c->guest[other].extents; i++) {
+                const config_extent *f = &c->guest[other].extent[i];
+                MUST(e == f || e->base + e->blocks <= f->base || f->base + f->blocks <= e->base);
+            }
+    }
+}
+
 int LLVMFuzzerTestOneInput(const uint8_t *bytes, size_t length) {
     static config c;
+    unsigned tags = 0;
+    uint64_t memory = 0;
     reason r = {""};
     if (!config_parse(&c, (const char *)bytes, length, &r)) {
         MUST(!strncmp(r.text, "line ", 5) && strlen(r.text) > 8 && !strchr(r.text, '\n'));
@@ -21,11 +36,14 @@ int LLVMFuzzerTestOneInput(const uint8_t *bytes, size_t length) {
     for (unsigned i = 0; i < c.guests; i++) {
         const config_guest *g = &c.guest[i];
         MUST(g->memory && g->memory % 4096 == 0 && g->extents >= 1 && g->extents <= CONFIG_EXTENTS);
+        look_at_extents(&c, i);
+        tags += g->share ? g->share : g->extents;
+        memory += g->memory;
         MUST(!g->listen != !g->starts && g->starts <= CONFIG_STARTS && !g->start[g->starts]);
         MUST(g->share <= CONFIG_TAGS * c.lanes && g->descriptors >= 1 && g->descriptors <= 4096);
         for (unsigned k = 0; k < g->extents; k++) MUST(g->extent[k].blocks && g->extent[k].base + g->extent[k].blocks <= config_blocks(&c));
     }
-    MUST(config_blocks(&c) <= (UINT64_C(1) << 48));
+    MUST(tags <= CONFIG_TAGS && memory <= (UINT64_C(1) << 46) && config_blocks(&c) <= (UINT64_C(1) << 48));
     return 0;
 }
 

@@ -24,7 +24,7 @@ static void look(proxy_request *q) {
     if (q->kind == PROXY_INTERRUPT) MUST(q->irq.interrupt >= NOT_OPEN && q->irq.resample >= NOT_OPEN);
     if (q->kind == PROXY_CONFIG_READ || q->kind == PROXY_CONFIG_WRITE) MUST(q->config.address + q->config.length <= 256 && q->config.length <= 4);
     if (q->kind == PROXY_BAR_READ || q->kind == PROXY_BAR_WRITE) MUST(q->bar.address <= UINT32_MAX && q->bar.address % q->bar.length == 0);
-    proxy_drop(q);
+    proxy_drop(q, NULL);
 }
 
 int LLVMFuzzerTestOneInput(const uint8_t *bytes, size_t length) {
@@ -34,7 +34,7 @@ int LLVMFuzzerTestOneInput(const uint8_t *bytes, size_t length) {
     if (length == 0) return 0;
     unsigned way = bytes[0];
     uint64_t now = 0;
-    MUST(proxy_open(&p, -1) == PROXY_OK);
+    MUST(proxy_open(&p, -1, NULL) == PROXY_OK);
     for (size_t at = 1; at < length && p.error == PROXY_OK;) {
         int fds[3] = {NOT_OPEN, NOT_OPEN + 1, NOT_OPEN + 2};
         size_t piece = 1 + (way * 7 + at) % 250;

@@ -1,5 +1,7 @@
 #include "guest.h"
 
+#include <unistd.h>
+
 #include "clock.h"
 
 enum { DWORD = 4, STOP_WAIT = 2000 /* milliseconds for a QEMU to end */ };
@@ -12,7 +14,7 @@ void guest_begin(guest *g, uint32_t number, const config_guest *is) {
 
 /* The connection begins: the function is as after power-on. */
 static bool connect_on(guest *g, int socket, reason *r) {
-    proxy_error e = proxy_open(&g->link, socket);
+    proxy_error e = proxy_open(&g->link, socket, &g->closing);
     if (e != PROXY_OK) return refuse(r, "its socket cannot be used: %s", proxy_words(e));
     pci_begin(&g->function, g->is->version);
     g->resetting = false;
@@ -29,7 +31,9 @@ bool guest_start(guest *g, reason *r) {
     return peer_start(&g->process, g->is->start, &memory, &socket, r) && connect_on(g, socket, r);
 }
 
-bool guest_is_free(const guest *g, mediation *m) { return !g->connected && g->listener.fd >= 0 && mediation_has_run_out(m, g->number); }
+bool guest_is_free(const guest *g, mediation *m) {
+    return !g->connected && g->listener.fd >= 0 && closing_left(&g->closing) == 0 && mediation_has_run_out(m, g->number);
+}
 
 void guest_accept(guest *g) {
     reason r;
@@ -72,24 +76,28 @@ static void write_bar(guest *g, mediation *m, const proxy_request *q) {
 
 /* ---- what QEMU asks for */
 
-/* Its memory was mapped when the guest began, and lies where a machine of its size has it. What QEMU says of it must agree. */
-static bool has_memory(const guest *g, const proxy_request *q) {
+/* Looks at what QEMU says of its memory, and closes the descriptors. Its memory was mapped when the guest began, and lies where a machine of its size has it. What QEMU says of it must agree. */
+static bool take_memory(guest *g, proxy_request *q) {
     uint64_t host;
-    for (unsigned i = 0; i < q->memory.count; i++)
-        if (memory_holds(&g->memory, &q->memory.region[i], &host)) return true;
-    return q->memory.count == 0;
+    bool good = q->memory.count == 0;
+    for (unsigned i = 0; i < q->memory.count; i++) {
+        proxy_region *region = &q->memory.region[i];
+        good |= memory_holds(&g->memory, region, &host);
+        if (!memory_is(&g->memory, region->fd)) continue;
+        close(region->fd);
+        region->fd = -1;
+    }
+    proxy_drop(q, &g->closing);
+    return good;
 }
 
 static bool carry_out(guest *g, mediation *m, proxy_request *q, uint64_t *value, reason *r) {
     *value = 0;
     switch (q->kind) {
-    case PROXY_MEMORY: {
-        bool good = has_memory(g, q);
-        proxy_drop(q);
-        return good || refuse(r, "the machine's memory is not the file that it was given");
-    }
+    case PROXY_MEMORY: return take_memory(g, q) || refuse(r, "the machine's memory is not the file that it was given");
     case PROXY_INTERRUPT:
-        return interrupt_take(&g->irq, q->irq.interrupt, q->irq.resample) == INTERRUPT_GOOD || refuse(r, "its interrupt is no pair of eventfds");
+        return interrupt_take(&g->irq, q->irq.interrupt, q->irq.resample, &g->closing) == INTERRUPT_GOOD ||
+               refuse(r, "its interrupt is no pair of eventfds");
     case PROXY_CONFIG_READ: *value = pci_config_read(&g->function, q->config.address, q->config.length); break;
     case PROXY_CONFIG_WRITE: pci_config_write(&g->function, q->config.address, q->config.value, q->config.length); break;
     case PROXY_BAR_READ: *value = read_bar(g, m, q); break;
@@ -109,6 +117,7 @@ bool guest_serve(guest *g, mediation *m, reason *r) {
     proxy_request q;
     uint64_t value;
     bool there;
+    if (closing_left(&g->closing) > CLOSING_MOST) return refuse(r, "it gives descriptors faster than they can be closed");
     proxy_error e = proxy_receive(&g->link, clock_milliseconds());
     while (!g->resetting && e == PROXY_OK && (e = proxy_next(&g->link, &q, &there, clock_milliseconds())) == PROXY_OK && there) {
         m->due = true;

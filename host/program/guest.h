@@ -2,6 +2,7 @@
 #ifndef HOST_GUEST_H
 #define HOST_GUEST_H
 
+#include "closing.h"
 #include "config.h"
 #include "interrupt.h"
 #include "mediation.h"
@@ -22,6 +23,8 @@ typedef struct guest {
     proxy link;
     pci_function function;
     interrupt irq;
+    closing closing; /* what its QEMUs gave */
+    unsigned said;   /* lines on it in this second */
 } guest;
 
 /* A guest without a QEMU. Its memory is there already. */
@@ -30,7 +33,8 @@ void guest_begin(guest *g, uint32_t number, const config_guest *is);
 /* Starts its QEMU, or listens for one. */
 bool guest_start(guest *g, reason *r);
 
-/* Whether a QEMU may connect: there is none, and what an earlier one had on its way has run out, so that nothing of it gets into the next one's memory. */
+/* Whether a QEMU may connect: there is none, and what an earlier one had on its way has run out, so that nothing of it gets into the next one's memory. What it
+ * gave has been closed, too. */
 bool guest_is_free(const guest *g, mediation *m);
 
 /* Takes a QEMU that connects. */

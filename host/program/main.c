@@ -14,6 +14,7 @@
 #include "mediation.h"
 
 enum { ENDED = 0, FAILED = 1, USAGE = 2, DRIVE_FAILED = 3, POLLS = 3 * CONFIG_GUESTS, TICK = 1000 /* milliseconds */ };
+enum { LINES = 8 /* on a guest, in a second */ };
 enum { SPIN = 100 /* microseconds that a drive with commands is looked at without a pause */, NAP = 50 /* and the pauses after that */ };
 
 typedef struct host {
@@ -38,17 +39,37 @@ static void stop(int signal) {
 /* Interrupts a write that a QEMU makes block (interrupt.h). */
 static void tick(int signal) { (void)signal; }
 
+/* Whatever the program that started this one did to them. The end of a QEMU is only seen where its signal is not ignored. */
 static void handle_signals(void) {
-    struct sigaction end = {.sa_handler = stop}, timer = {.sa_handler = tick}, none = {.sa_handler = SIG_IGN};
-    struct itimerval second = {{1, 0}, {1, 0}};
+    struct sigaction end = {.sa_handler = stop}, timer = {.sa_handler = tick}, none = {.sa_handler = SIG_IGN}, child = {.sa_handler = SIG_DFL};
+    sigset_t blocked;
     sigaction(SIGTERM, &end, NULL);
     sigaction(SIGINT, &end, NULL);
     sigaction(SIGALRM, &timer, NULL);
     sigaction(SIGPIPE, &none, NULL);
+    sigaction(SIGCHLD, &child, NULL);
+    sigemptyset(&blocked);
+    sigprocmask(SIG_SETMASK, &blocked, NULL);
+}
+
+/* From when QEMUs can make a write block. Before that it would interrupt what takes a while. */
+static void start_timer(void) {
+    const struct itimerval second = {{1, 0}, {1, 0}};
     setitimer(ITIMER_REAL, &second, NULL);
 }
 
-static void say(const guest *g, const char *text) { fprintf(stderr, "nvmed-host: guest %u: %s\n", (unsigned)g->number, text); }
+/* A line on a guest: its QEMUs can make it as often as they like, so that some a second are enough. */
+static void say(guest *g, const char *text) {
+    if (g->said++ < LINES) fprintf(stderr, "nvmed-host: guest %u: %s\n", (unsigned)g->number, text);
+}
+
+static void begin_second(host *h) {
+    for (unsigned i = 0; i < h->guests; i++) {
+        guest *g = &h->guest[i];
+        if (g->said > LINES) fprintf(stderr, "nvmed-host: guest %u: %u lines like these more\n", i, g->said - LINES);
+        g->said = 0;
+    }
+}
 
 /* ---- the beginning */
 
@@ -151,6 +172,7 @@ static int run(host *h) {
     struct pollfd polls[POLLS];
     reason r;
     uint64_t last = clock_milliseconds(), failed = 0;
+    start_timer();
     while (!stopping && is_any_left(h)) {
         struct timespec most = longest_pause(&h->mediation);
         fill(h, polls);
@@ -163,6 +185,7 @@ static int run(host *h) {
         bool good = mediation_work(&h->mediation, &r);
         if (good && clock_milliseconds() - last >= TICK) {
             last = clock_milliseconds();
+            begin_second(h);
             say_counts(h);
             good = mediation_check(&h->mediation, &r);
         }

@@ -2,6 +2,7 @@
 
 #include <inttypes.h>
 
+#include "bytes.h"
 #include "clock.h"
 
 enum { CC = 0x14, CSTS = 0x1c, CSTS_READY = 1, RING_SLOTS = 65, ENTRY = 64, COMPLETION = 16 };
@@ -78,10 +79,11 @@ bool mediation_open(mediation *m, const config *c, const layout *l, uint8_t *mem
 
 static unsigned steps(uint32_t from, uint32_t to) { return (to + RING_SLOTS - from) % RING_SLOTS; }
 
-/* Notes the entries that the drive is about to get. */
+/* Notes the entries that the drive is about to get. They are copied: a drive that does not keep to the rules could change them. */
 static void note_sent(mediation *m, unsigned lane, const nvmed_lane_rings *rings, unsigned entries) {
     for (unsigned i = 0; i < entries; i++) {
-        const uint8_t *entry = m->memory + rings->submission + ENTRY * (uint64_t)((m->lane[lane].tail + i) % RING_SLOTS);
+        uint8_t entry[ENTRY];
+        copy_once(entry, m->memory + rings->submission + ENTRY * (uint64_t)((m->lane[lane].tail + i) % RING_SLOTS), ENTRY);
         flight_sent(&m->flight, lane, entry);
         if (m->counts) statistics_count(m->counts, entry);
     }
@@ -89,8 +91,11 @@ static void note_sent(mediation *m, unsigned lane, const nvmed_lane_rings *rings
 
 /* Notes the completions that the mediator has taken, which the drive may not write over yet. */
 static void note_answered(mediation *m, unsigned lane, const nvmed_lane_rings *rings, unsigned completions) {
-    for (unsigned i = 0; i < completions; i++)
-        flight_answered(&m->flight, lane, m->memory + rings->completion + COMPLETION * (uint64_t)((m->lane[lane].head + i) % RING_SLOTS));
+    for (unsigned i = 0; i < completions; i++) {
+        uint8_t completion[COMPLETION];
+        copy_once(completion, m->memory + rings->completion + COMPLETION * (uint64_t)((m->lane[lane].head + i) % RING_SLOTS), COMPLETION);
+        flight_answered(&m->flight, lane, completion);
+    }
 }
 
 /* Writes the doorbells of a lane that are to have another value. */

@@ -20,7 +20,7 @@ static void test_level(void) {
     interrupt_begin(&i);
     CHECK(interrupt_set(&i, true) == INTERRUPT_GOOD && interrupt_acknowledged(&i) == INTERRUPT_GOOD);
     int raise = eventfd(0, EFD_CLOEXEC), resample = eventfd(0, EFD_CLOEXEC), peer_raise = dup(raise), peer_resample = dup(resample);
-    CHECK(interrupt_take(&i, raise, resample) == INTERRUPT_GOOD && fcntl(peer_raise, F_GETFL) & O_NONBLOCK && fcntl(peer_resample, F_GETFL) & O_NONBLOCK);
+    CHECK(interrupt_take(&i, raise, resample, NULL) == INTERRUPT_GOOD && fcntl(peer_raise, F_GETFL) & O_NONBLOCK && fcntl(peer_resample, F_GETFL) & O_NONBLOCK);
     CHECK(interrupt_set(&i, false) == INTERRUPT_GOOD && take(peer_raise) == 0);
     CHECK(interrupt_set(&i, true) == INTERRUPT_GOOD && take(peer_raise) == 1);
     CHECK(interrupt_set(&i, true) == INTERRUPT_GOOD && take(peer_raise) == 0);
@@ -34,7 +34,7 @@ static void test_level(void) {
     CHECK(fcntl(peer_raise, F_SETFL, 0) == 0 && interrupt_set(&i, true) == INTERRUPT_GOOD && i.raised && take(peer_raise) == UINT64_MAX - 1);
     CHECK(fcntl(peer_resample, F_SETFL, 0) == 0 && interrupt_acknowledged(&i) == INTERRUPT_GOOD && i.raised);
     /* others take their place */
-    CHECK(interrupt_take(&i, eventfd(0, EFD_CLOEXEC), eventfd(0, EFD_CLOEXEC)) == INTERRUPT_GOOD && !i.raised);
+    CHECK(interrupt_take(&i, eventfd(0, EFD_CLOEXEC), eventfd(0, EFD_CLOEXEC), NULL) == INTERRUPT_GOOD && !i.raised);
     interrupt_close(&i);
     interrupt_close(&i);
     close(peer_raise);
@@ -48,10 +48,10 @@ static void test_strange(void) {
     unsigned before = open_descriptors();
     interrupt_begin(&i);
     CHECK(pipe2(ends, O_CLOEXEC) == 0);
-    CHECK(interrupt_take(&i, ends[1], eventfd(0, EFD_CLOEXEC)) == INTERRUPT_STRANGE && i.raise == -1 && i.resample == -1);
-    CHECK(interrupt_take(&i, eventfd(0, EFD_CLOEXEC), ends[0]) == INTERRUPT_STRANGE);
-    CHECK(interrupt_take(&i, open("/dev/null", O_RDWR | O_CLOEXEC), eventfd(0, EFD_CLOEXEC)) == INTERRUPT_STRANGE);
-    CHECK(interrupt_take(&i, -1, eventfd(0, EFD_CLOEXEC)) == INTERRUPT_STRANGE && interrupt_take(&i, -1, -1) == INTERRUPT_STRANGE);
+    CHECK(interrupt_take(&i, ends[1], eventfd(0, EFD_CLOEXEC), NULL) == INTERRUPT_STRANGE && i.raise == -1 && i.resample == -1);
+    CHECK(interrupt_take(&i, eventfd(0, EFD_CLOEXEC), ends[0], NULL) == INTERRUPT_STRANGE);
+    CHECK(interrupt_take(&i, open("/dev/null", O_RDWR | O_CLOEXEC), eventfd(0, EFD_CLOEXEC), NULL) == INTERRUPT_STRANGE);
+    CHECK(interrupt_take(&i, -1, eventfd(0, EFD_CLOEXEC), NULL) == INTERRUPT_STRANGE && interrupt_take(&i, -1, -1, NULL) == INTERRUPT_STRANGE);
     CHECK(interrupt_set(&i, true) == INTERRUPT_GOOD && open_descriptors() == before);
 }
 

@@ -7,6 +7,7 @@
 #include <unistd.h>
 
 #include "check.h"
+#include "drive.h"
 
 static reason r;
 static memory_row row;
@@ -58,8 +59,29 @@ static void refused(const char *path, uint64_t address, uint64_t length, const c
     CHECK(m.fd == -1 && !memcmp(&row.mapped, &before, sizeof before) && open_descriptors() == descriptors);
 }
 
+/* A file that is the drive's is no guest's memory. */
+static void test_drive(const char *path) {
+    drive *d = drive_open_ram(&row.mapped, 32, path, &r);
+    CHECK_MORE(d != NULL, r.text);
+    refused(path, 0x8000, 0x4000, "is used already");
+    if (d) CHECK(drive_close(d, &r));
+}
+
+/* A file of another kind, which could make a call wait: it is not asked. */
+static void test_strange(void) {
+    memory_file m;
+    int ends[2];
+    CHECK(memory_reserve(&row, 1 << 24, &r) && memory_add(&m, &row, NULL, 0x1000, 0x4000, &r) && pipe(ends) == 0);
+    CHECK(memory_is(&m, m.fd) && !memory_is(&m, ends[0]) && !memory_is(&m, -1) && !memory_is(&m, 1 << 20));
+    close(ends[0]);
+    close(ends[1]);
+    memory_close(&m);
+    CHECK(!memory_is(&m, 0));
+    memory_release(&row);
+}
+
 static void test_named(void) {
-    char folder[] = "/tmp/host-memory-XXXXXX", path[80], link[80];
+    char folder[] = "/tmp/host-memory-XXXXXX", path[80], link[80], other[120];
     memory_file m;
     struct stat about;
     CHECK(mkdtemp(folder) != NULL);
@@ -70,8 +92,20 @@ static void test_named(void) {
     CHECK(stat(path, &about) == 0 && about.st_size == 0x4000 && (about.st_mode & 0777) == 0600);
     row.bytes[0x1000] = 5;
     memory_close(&m);
-    /* it is there the second time */
-    CHECK(memory_add(&m, &row, path, 0x8000, 0x4000, &r) && row.bytes[0x8000] == 5);
+    /* while it is mapped it is no other's, whatever its name; then it is there the second time */
+    snprintf(other, sizeof other, "%s/../%s/m", folder, folder + 5);
+    refused(path, 0x8000, 0x4000, "is used already");
+    refused(other, 0x8000, 0x4000, "is used already");
+    CHECK(drive_open_ram(&row.mapped, 32, other, &r) == NULL);
+    CHECK_HAS(r.text, "is used already");
+    memory_release(&row);
+    CHECK(memory_reserve(&row, 1 << 24, &r));
+    test_drive(other);
+    CHECK_MORE(memory_add(&m, &row, path, 0x1000, 0x4000, &r) && row.bytes[0x1000] == 5, r.text);
+    memory_close(&m);
+    memory_release(&row);
+    CHECK(memory_reserve(&row, 1 << 24, &r));
+    CHECK(memory_add(&m, &row, NULL, 0x1000, 0x4000, &r));
     memory_close(&m);
     refused(path, 0x10000, 0x5000, "has 16384 bytes, not 20480");
     refused("/dev/null", 0x10000, 0x1000, "/dev/null: is no regular file");
@@ -97,5 +131,6 @@ static void test_named(void) {
 int main(void) {
     test_own();
     test_named();
+    test_strange();
     return checks_end();
 }

@@ -2,6 +2,9 @@
 #ifndef HOST_TESTS_MESSAGES_H
 #define HOST_TESTS_MESSAGES_H
 
+#include <string.h>
+#include <sys/socket.h>
+
 #include "bytes.h"
 #include "proxy.h"
 
@@ -48,6 +51,26 @@ static inline message eight_regions(void) {
     message m = header(SYNC_SYSMEM, 192);
     for (unsigned i = 0; i < 8; i++) set_region(&m, i, (uint64_t)i << 20, 1 << 20, (uint64_t)i << 32);
     return m;
+}
+
+/* Sends bytes, and up to 253 descriptors beside them. */
+static inline bool send_bytes(int fd, const uint8_t *bytes, size_t length, const int *fds, unsigned count) {
+    union {
+        struct cmsghdr align;
+        uint8_t bytes[CMSG_SPACE(sizeof(int) * 253)];
+    } control = {0};
+    struct iovec part = {(void *)(uintptr_t)bytes, length};
+    struct msghdr h = {.msg_iov = &part, .msg_iovlen = 1};
+    if (count) {
+        h.msg_control = &control;
+        h.msg_controllen = CMSG_SPACE(sizeof(int) * count);
+        struct cmsghdr *c = CMSG_FIRSTHDR(&h);
+        c->cmsg_level = SOL_SOCKET;
+        c->cmsg_type = SCM_RIGHTS;
+        c->cmsg_len = CMSG_LEN(sizeof(int) * count);
+        memcpy(CMSG_DATA(c), fds, sizeof(int) * count);
+    }
+    return sendmsg(fd, &h, MSG_NOSIGNAL) == (ssize_t)length;
 }
 
 #endif

@@ -63,7 +63,7 @@ static void look_at_memory(proxy_request *q) {
         else sum += region->length;
     }
     if (sum > most_memory) most_memory = sum;
-    proxy_drop(q);
+    proxy_drop(q, NULL);
 }
 
 static proxy_error serve(proxy *p, pci_function *f) {
@@ -75,7 +75,7 @@ static proxy_error serve(proxy *p, pci_function *f) {
         counts[q.kind]++;
         switch (q.kind) {
         case PROXY_MEMORY: look_at_memory(&q); continue;
-        case PROXY_INTERRUPT: odd += interrupt_take(&irq, q.irq.interrupt, q.irq.resample) != INTERRUPT_GOOD; continue;
+        case PROXY_INTERRUPT: odd += interrupt_take(&irq, q.irq.interrupt, q.irq.resample, NULL) != INTERRUPT_GOOD; continue;
         case PROXY_CONFIG_READ: value = pci_config_read(f, q.config.address, q.config.length); break;
         case PROXY_CONFIG_WRITE: pci_config_write(f, q.config.address, q.config.value, q.config.length); break;
         case PROXY_BAR_READ: value = bar_read(f, &q); break;
@@ -100,7 +100,7 @@ int main(int argc, char **argv) {
     CHECK_MORE(memory_add(&file, &row, NULL, ADDRESS, BYTES, &r), r.text);
     memory_path(&file, path, sizeof path);
     CHECK_MORE(peer_start(&qemu, argv + 1, &(peer_memory){path, BYTES}, &socket, &r), r.text);
-    CHECK(proxy_open(&p, socket) == PROXY_OK);
+    CHECK(proxy_open(&p, socket, NULL) == PROXY_OK);
     pci_begin(&f, 0x10200);
     interrupt_begin(&irq);
     proxy_error e = PROXY_OK;

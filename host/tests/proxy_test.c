@@ -105,30 +105,15 @@ static void test_regions(void) {
 /* A connection of which the test has the other end. */
 static int pair(proxy *p) {
     int ends[2];
-    if (socketpair(AF_UNIX, SOCK_STREAM, 0, ends) || proxy_open(p, ends[0]) != PROXY_OK) abort();
+    if (socketpair(AF_UNIX, SOCK_STREAM, 0, ends) || proxy_open(p, ends[0], NULL) != PROXY_OK) abort();
     return ends[1];
 }
 
 /* Sends bytes, and `count` descriptors beside them, all of which are closed here. */
 static void send_with(int fd, const uint8_t *bytes, size_t length, unsigned count) {
-    union {
-        struct cmsghdr align;
-        uint8_t bytes[CMSG_SPACE(sizeof(int) * 32)];
-    } control = {0};
-    struct iovec part = {(void *)(uintptr_t)bytes, length};
-    struct msghdr h = {.msg_iov = &part, .msg_iovlen = 1};
-    int fds[32];
+    int fds[253];
     for (unsigned i = 0; i < count; i++) fds[i] = eventfd(0, 0);
-    if (count) {
-        h.msg_control = &control;
-        h.msg_controllen = CMSG_SPACE(sizeof(int) * count);
-        struct cmsghdr *c = CMSG_FIRSTHDR(&h);
-        c->cmsg_level = SOL_SOCKET;
-        c->cmsg_type = SCM_RIGHTS;
-        c->cmsg_len = CMSG_LEN(sizeof(int) * count);
-        memcpy(CMSG_DATA(c), fds, sizeof(int) * count);
-    }
-    if (sendmsg(fd, &h, MSG_NOSIGNAL) != (ssize_t)length) abort();
+    if (!send_bytes(fd, bytes, length, fds, count)) abort();
     for (unsigned i = 0; i < count; i++) close(fds[i]);
 }
 
@@ -190,7 +175,7 @@ static void test_bytewise(void) {
             CHECK(proxy_check(&p, 5 + PROXY_STALL - 1) == PROXY_OK);
             if (there) {
                 CHECK(q.kind != PROXY_MEMORY || (q.memory.count == 3 && fcntl(q.memory.region[2].fd, F_GETFD) == FD_CLOEXEC));
-                proxy_drop(&q);
+                proxy_drop(&q, NULL);
             }
             close(peer);
             if (cut % 2 == 0) {
@@ -208,7 +193,7 @@ static void test_descriptors(void) {
         unsigned count;
         proxy_error reset, memory;
     } cases[] = {{1, PROXY_COUNT, PROXY_OK},  {2, PROXY_COUNT, PROXY_OK},   {8, PROXY_COUNT, PROXY_OK},
-                 {9, PROXY_LOST, PROXY_LOST}, {10, PROXY_LOST, PROXY_LOST}, {32, PROXY_LOST, PROXY_LOST}};
+                 {9, PROXY_LOST, PROXY_LOST}, {10, PROXY_LOST, PROXY_LOST}, {253, PROXY_LOST, PROXY_LOST}};
     for (size_t i = 0; i < sizeof cases / sizeof cases[0]; i++) {
         proxy p;
         proxy_request q;
@@ -222,7 +207,7 @@ static void test_descriptors(void) {
         peer = pair(&p);
         send_message(peer, eight_regions(), cases[i].count);
         CHECK(turn(&p, &q, &there) == cases[i].memory);
-        if (there) proxy_drop(&q);
+        if (there) proxy_drop(&q, NULL);
         proxy_close(&p);
         close(peer);
         CHECK(open_descriptors() == before);
@@ -253,9 +238,9 @@ static void test_attribution(void) {
     CHECK(proxy_receive(&p, 0) == PROXY_OK && p.have == 44);
     CHECK(turn(&p, &q, &there) == PROXY_OK && there && q.kind == PROXY_CONFIG_READ);
     CHECK(turn(&p, &q, &there) == PROXY_OK && there && q.kind == PROXY_INTERRUPT);
-    proxy_drop(&q);
+    proxy_drop(&q, NULL);
     CHECK(turn(&p, &q, &there) == PROXY_OK && there && q.kind == PROXY_MEMORY && q.memory.count == 1);
-    proxy_drop(&q);
+    proxy_drop(&q, NULL);
     CHECK(turn(&p, &q, &there) == PROXY_OK && !there);
     /* requests that nobody took are closed with the connection */
     send_message(peer, eight_regions(), 8);
@@ -276,7 +261,7 @@ static void test_borders(void) {
     message first = config_access(PCI_CFGREAD, 0, 0, 4), second = header(SET_IRQFD, 0);
     memcpy(bytes, first.bytes, 28);
     memcpy(bytes + 28, second.bytes, 16);
-    CHECK(proxy_open(&p, -1) == PROXY_OK && proxy_feed(&p, bytes, 29, fds, 2, false, 0) == PROXY_OK);
+    CHECK(proxy_open(&p, -1, NULL) == PROXY_OK && proxy_feed(&p, bytes, 29, fds, 2, false, 0) == PROXY_OK);
     CHECK(proxy_next(&p, &q, &there, 100) == PROXY_OK && there && q.kind == PROXY_CONFIG_READ);
     CHECK(proxy_feed(&p, bytes + 29, 1, NULL, 0, false, 99 + PROXY_STALL) == PROXY_OK && proxy_check(&p, 99 + PROXY_STALL) == PROXY_OK);
     proxy late = p;
@@ -345,8 +330,8 @@ static void test_odd(void) {
     CHECK(proxy_flush(&p) == PROXY_CLOSED);
     proxy_close(&p);
     close(closed);
-    CHECK(proxy_open(&p, closed) == PROXY_BROKEN);
-    CHECK(proxy_open(&p, -1) == PROXY_OK && proxy_feed(&p, NULL, 0, NULL, 0, false, 0) == PROXY_OK);
+    CHECK(proxy_open(&p, closed, NULL) == PROXY_BROKEN);
+    CHECK(proxy_open(&p, -1, NULL) == PROXY_OK && proxy_feed(&p, NULL, 0, NULL, 0, false, 0) == PROXY_OK);
     uint8_t much[PROXY_MESSAGE + 1] = {0};
     CHECK(proxy_feed(&p, much, sizeof much, NULL, 0, false, 0) == PROXY_SIZE);
     for (int e = 0; e < PROXY_ERRORS; e++) CHECK(strlen(proxy_words((proxy_error)e)) > 5);

@@ -3,7 +3,7 @@
 set -e
 while read -r name rw size depth; do
     fio --name="$name" --filename=/dev/nvme0n1 --direct=1 --rw="$rw" --bs="$size" --iodepth="$depth" --size=24m --ioengine=io_uring --hipri \
-        --time_based --runtime=6 --ramp_time=1 --output-format=terse > /tmp/fio || { cat /tmp/fio; false; }
+        --time_based --runtime=5 --ramp_time=1 --output-format=terse > /tmp/fio || { cat /tmp/fio; false; }
     echo "speed $name $(awk -F ';' '$1 == 3 { print $8 + $49 }' /tmp/fio)"
 done << END
 read-1 randread 4k 1
