@@ -15,9 +15,9 @@ use Rattle.nv_model.specs.Limits.{page}
 use Rattle.nv_model.specs.Memory.{image, put_image, scattered, stored}
 use Rattle.nv_model.specs.Prp.{entry_fault, first_len, pages_of, read_prp, read_prp2}
 use Rattle.nv_model.specs.Reading.{Reading, Faulty, Spells, run, unless_faulty}
+use Rattle.nv_model.proofs.MemoryAlike.{stored-at}
 use Rattle.nv_model.proofs.MemoryLemmas.{scattered-addresses, scattered-append, stored-nil}
 use Rattle.nv_model.proofs.PutImages.{image-put_image, put_image-twice}
-use Rattle.nv_bounce.proofs.Scattered.{stored-same_at}
 
 -- ---- reading PRP1 and PRP2
 
@@ -160,7 +160,7 @@ put-runs rs m mid a b n k xs ys bytes apart parts first second is =
     let one : ℕ → ℕ = stored (image rs m) a xs in
     ap (λ (h : ℕ → ℕ). put_image rs (stored (image rs h) b ys) h) is
     ∙ put_image-twice rs one (stored (image rs (put_image rs one m)) b ys) (stored one b ys) m apart
-    (λ at there. stored-same_at (image rs (put_image rs one m)) one b ys at (image-put_image rs one m at apart there))
+    (λ at there. stored-at (image rs (put_image rs one m)) one b ys at (image-put_image rs one m at apart there))
     ∙ ap (λ (g : ℕ → ℕ). put_image rs g m)
     (sym (scattered-runs (image rs m) a b xs ys)
     ∙ ap (λ (bs : List ℕ). scattered (image rs m) (places_of (run a (length xs) ++ run b (length ys))) bs) (sym parts)

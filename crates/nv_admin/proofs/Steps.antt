@@ -10,8 +10,8 @@ use Rattle.nv_model.specs.Admin.{finish_deletion, front_command, is_queue_full, 
 use Rattle.nv_model.specs.Controller.{Controller, Deletion, Posted, completion_queue, front, is_ready, submission_queue, took, took_of}
 use Rattle.nv_model.specs.Memory.{bytes_from, image, put_image, stored}
 use Rattle.nv_model.specs.Queue.{SubmissionQueue, sqe_size}
+use Rattle.nv_model.proofs.MemoryAlike.{stored-at}
 use Rattle.nv_model.proofs.PutImages.{image-put_image, put_image-twice}
-use Rattle.nv_bounce.proofs.Scattered.{stored-same_at}
 use Rattle.nv_vctl.specs.Vctl.{controller_behind as behind_post, deletion_finished, entry_at, finished_from, host_behind as host_behind_post, posted_or_held}
 use Rattle.nv_vctl.specs.declared.posted.Posted.TheVariants as posted
 use Rattle.nv_admin.specs.Effect.{IsDone, effect}
@@ -28,7 +28,7 @@ put-stored : (rs : List Region) (memory before now : ℕ → ℕ) (addr : ℕ) (
 put-stored rs memory before now addr entry apart is =
     ap (λ (h : ℕ → ℕ). put_image rs (stored (image rs h) addr entry) h) is
     ∙ put_image-twice rs memory (stored (image rs (put_image rs memory before)) addr entry) (stored memory addr entry) before apart
-    (λ at there. stored-same_at (image rs (put_image rs memory before)) memory addr entry at (image-put_image rs memory before at apart there))
+    (λ at there. stored-at (image rs (put_image rs memory before)) memory addr entry at (image-put_image rs memory before at apart there))
 
 -- a completion that is posted
 pub posted-stepped : (rs : List Region) (memory before now new : ℕ → ℕ) (c d : Controller) (o : Option Posted) → AllPairs IsApart rs

@@ -8,6 +8,7 @@ ghost use Rattle.nv_mem.specs.GuestMap.{everywhere, mapped};
 ghost use Rattle.nv_model.specs.Admin.{completes_to_checks, completion_id, create_completion, create_submission, delete_completion, delete_submission, new_queue_checks, place_checks, qid, qsize};
 ghost use Rattle.nv_model.specs.Controller.{completion_queue, is_ready, submission_queue};
 ghost use Rattle.nv_model.specs.Laws.{QueuesInPlace};
+ghost use Rattle.nv_model.specs.Queue.{sqe_size};
 ghost use Rattle.nv_model.specs.Reading.{first_failing};
 ghost use Rattle.nv_ring.specs.Ring.{FitsRing};
 ghost use Rattle.nv_vctl.specs.Vctl.{IsIoQueue};
@@ -138,7 +139,7 @@ fn check_completes_to(sqe: &Sqe, vctl: &Vctl) -> Result<u16, StatusCode>
 
 // The checks of a new queue's place: its base is a page's start, and all its slots, of so many bytes each, are mapped.
 fn check_place(sqe: &Sqe, slot: u64, size: u16, map: &GuestMap) -> Result<(), StatusCode>
-    requires slot { slot ≤ 64 }
+    requires slot { slot ≤ sqe_size }
     requires size { size ≡ qsize sqe.now + 1 }
     ensures fault { result_err result ≡ first_failing (place_checks (mapped map.now.regions) slot sqe.now) }
     ensures in_map { IfOk result (λ _. everywhere (mapped map.now.regions) (prp1_of sqe.now) (slot * size) ≡ true) }

@@ -12,9 +12,10 @@ use Rattle.nv_mem.specs.declared.region.Region.{Region}
 use Rattle.nv_mem.specs.GuestMap.{IsApart}
 use Rattle.nv_mem.specs.MapRuns.{IsContiguous}
 use Rattle.nv_model.specs.Memory.{byte_in, bytes_from, image, put_image, stored}
+use Rattle.nv_model.proofs.MemoryAlike.{stored-at}
 use Rattle.nv_model.proofs.MemoryLemmas.{bytes_from-append, bytes_from-list, bytes_from-same, stored-append, stored-list, stored-nil}
 use Rattle.nv_model.proofs.PutImages.{image-mapped, image-put_image, put_image-own, put_image-twice}
-use Rattle.nv_bounce.proofs.Scattered.{stored-row_at, stored-same_at}
+use Rattle.nv_bounce.proofs.Scattered.{stored-row_at}
 
 -- ---- reading
 
@@ -106,7 +107,7 @@ stored-behind : (rs : List Region) (m : ℕ → ℕ) (addr : ℕ) (front piece :
 stored-behind rs m addr front piece apart =
     let first : ℕ → ℕ = stored (image rs m) addr front in
     put_image-twice rs first (stored (image rs (put_image rs first m)) (addr + length front) piece) (stored first (addr + length front) piece) m apart
-    (λ at there. stored-same_at (image rs (put_image rs first m)) first (addr + length front) piece at (image-put_image rs first m at apart there))
+    (λ at there. stored-at (image rs (put_image rs first m)) first (addr + length front) piece at (image-put_image rs first m at apart there))
     ∙ ap (λ (g : ℕ → ℕ). put_image rs g m) (stored-append (image rs m) addr front piece)
 
 -- one more row is written

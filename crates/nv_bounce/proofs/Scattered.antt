@@ -1,6 +1,6 @@
 -- Bytes that are copied from a slot, run by run.
-use Rattle.std.proofs.Common.{◌≡◌, ℕ, ◌+◌, ◌-◌, ◌<◌, ◌≤◌, ◌⊎◌, inl, inr, false, cond}
-use Rattle.std.proofs.Common.{nat_le, nat_lt, ◌&&◌, List, [], ◌∷◌, ◌++◌, length, replicate, slice_index}
+use Rattle.std.proofs.Common.{◌≡◌, ℕ, ◌+◌, ◌-◌, ◌<◌, ◌≤◌, ◌⊎◌, inl, inr, false}
+use Rattle.std.proofs.Common.{List, [], ◌++◌, length, replicate, slice_index}
 use Rattle.std.proofs.Common.{Some, None, arith, refl, sym, ap, subst, ◌∙◌}
 use Rattle.std.proofs.lemmas.Bool.{cases_lt}
 use Rattle.std.proofs.lemmas.List.{length-append}
@@ -10,34 +10,18 @@ use Rattle.nv_mem.specs.Bytes.{InMemory, after_store, bytes_at}
 use Rattle.nv_mem.specs.declared.region.Region.{Region}
 use Rattle.nv_mem.specs.GuestMap.{IsApart, IsSound, Mapping, guest_of, host_of, span_met}
 use Rattle.nv_mem.specs.MapRuns.{IsContiguous, IsLongestRun}
-use Rattle.nv_mem.specs.Places.{Place, At, Bucket, addresses}
+use Rattle.nv_mem.specs.Places.{Place, Bucket, addresses}
 use Rattle.nv_mem.proofs.Images.{guest_of-host, host_of-guest}
 use Rattle.nv_mem.proofs.Memory.{length-bytes_at, span_met-part}
 use Rattle.nv_mem.proofs.PlaceLists.{length-addresses}
 use Rattle.nv_model.specs.Memory.{byte_in, byte_or, bytes_from, image, put_image, scattered, stored}
+use Rattle.nv_model.proofs.MemoryAlike.{scattered-at}
 use Rattle.nv_model.proofs.MemoryLemmas.{bytes_from-append, bytes_from-list, scattered-addresses, scattered-append, scattered-buckets, stored-inside, stored-list, stored-outside}
 use Rattle.nv_model.proofs.PutImages.{bytes_from-put_image, image-mapped, image-put_image, put_image-own, put_image-twice}
 use Rattle.nv_model.proofs.Shown.{length-bytes_from}
 use Rattle.nv_bounce.specs.Bounce.{scattered_from}
 use Rattle.nv_bounce.proofs.Copies.{GoesInOrder, IsAtRow, IsAtRow-next}
 use Rattle.nv_mem.proofs.MappedRuns.{run-inside}
-
--- ---- memories that are the same at an address
-
--- and stay so behind a store
-pub stored-same_at : (f g : ℕ → ℕ) (addr : ℕ) (bytes : List ℕ) (at : ℕ) → f at ≡ g at → stored f addr bytes at ≡ stored g addr bytes at
-unfolding stored
-stored-same_at f g addr bytes at same =
-    ap (λ (byte : ℕ). cond (nat_le addr at && nat_lt at (addr + length bytes)) (slice_index bytes (at - addr)) byte) same
-
--- or where bytes are scattered
-scattered-same_at : (f g : ℕ → ℕ) (places : List Place) (bytes : List ℕ) (at : ℕ) → f at ≡ g at → scattered f places bytes at ≡ scattered g places bytes at
-unfolding scattered
-scattered-same_at f g [] bytes at same = same
-scattered-same_at f g (place ∷ places) [] at same = same
-scattered-same_at f g (At addr ∷ places) (byte ∷ bytes) at same =
-    scattered-same_at (stored f addr (byte ∷ [])) (stored g addr (byte ∷ [])) places bytes at (stored-same_at f g addr (byte ∷ []) at same)
-scattered-same_at f g (Bucket ∷ places) (byte ∷ bytes) at same = scattered-same_at f g places bytes at same
 
 -- ---- some places, and those behind them
 
@@ -61,7 +45,7 @@ scattered_from-append rs m front behind slot apart clear =
     ap (λ (bytes : List ℕ). put_image rs (scattered (image rs moved) behind bytes) moved)
     (bytes_from-put_image rs given m (slot + length front) (length behind) clear)
     ∙ put_image-twice rs given (scattered (image rs moved) behind rest) (scattered given behind rest) m apart
-    (λ addr there. scattered-same_at (image rs moved) given behind rest addr (image-put_image rs given m addr apart there))
+    (λ addr there. scattered-at (image rs moved) given behind rest addr (image-put_image rs given m addr apart there))
     ∙ ap (λ (g : ℕ → ℕ). put_image rs g m) (sym (scattered-both m (image rs m) front behind slot))
 
 -- ---- a run that lies in a row in the host

@@ -4,7 +4,10 @@ use crate::bench::Bench;
 use crate::desk::{Desk, Form};
 use crate::rounds::{FLUSH, brought_up, queue};
 use crate::two_guests::{GUESTS, desk};
-use nv_bringup::{BRING_UP, COMPLETIONS, Deed, Fields, HEAD, SLOTS, SUBMISSIONS, TAIL, act_of};
+use nv_bringup::{
+    ADMIN_SUBMISSIONS, ADMIN_TAIL, BRING_UP, COMPLETIONS, CREATE_COMPLETION_QUEUE,
+    CREATE_SUBMISSION_QUEUE, Deed, Fields, HEAD, SLOTS, SUBMISSIONS, TAIL, act_of,
+};
 use nv_entry::{Cqe, StatusCode};
 use nv_host::{Scope, Why, Worked};
 use nv_mem::BoxedBytes;
@@ -19,6 +22,15 @@ const LANES: u8 = 2;
 
 /// More events than any round has.
 const MANY: u64 = 10_000;
+
+/// Where the second queue pair of a guest lies, and the doorbells of its queues.
+const SECOND_COMPLETIONS: u64 = 0x1_4000;
+
+const SECOND_SUBMISSIONS: u64 = 0x1_5000;
+
+const SECOND_TAIL: u32 = 0x1010;
+
+const SECOND_HEAD: u32 = 0x1014;
 
 /// In which way the host asks for work.
 #[derive(Clone, Copy, PartialEq, Eq)]
@@ -88,6 +100,29 @@ impl Shop {
             guest,
             &Deed::Entry(addr, fields.entry(number.wrapping_add(1))),
         ) && self.does(guest, &Deed::Doorbell(TAIL, tail))
+    }
+
+    // A guest with queue pair 1 makes a second one; whether it has.
+    fn makes_second_pair(&mut self, guest: u8) -> bool {
+        let mut completions = CREATE_COMPLETION_QUEUE;
+        completions[6] = SECOND_COMPLETIONS as u32;
+        completions[10] = 0x000f_0002;
+        let mut submissions = CREATE_SUBMISSION_QUEUE;
+        submissions[6] = SECOND_SUBMISSIONS as u32;
+        submissions[10] = 0x000f_0002;
+        submissions[11] = 0x0002_0001;
+        self.does(guest, &Deed::Entry(ADMIN_SUBMISSIONS + 128, completions))
+            && self.does(guest, &Deed::Entry(ADMIN_SUBMISSIONS + 192, submissions))
+            && self.does(guest, &Deed::Doorbell(ADMIN_TAIL, 4))
+            && self.works() == (2, true)
+    }
+
+    // A guest puts a Flush into its second queue, in that slot, and rings; the identifier is that of the slot.
+    fn enters_second(&mut self, guest: u8, slot: u16) -> bool {
+        let addr = SECOND_SUBMISSIONS + 64 * u64::from(slot % SLOTS);
+        let tail = u32::from(slot.wrapping_add(1) % SLOTS);
+        self.does(guest, &Deed::Entry(addr, flush().entry(slot)))
+            && self.does(guest, &Deed::Doorbell(SECOND_TAIL, tail))
     }
 
     // What is due is carried out in the host's way; how many events that were, and whether nothing stopped them.
@@ -171,10 +206,15 @@ impl Shop {
         [0; 512]
     }
 
-    // Whether a guest's command was completed with success, in one of so many places of its queue.
+    // Whether a guest's command was completed with success, in one of so many places of its first queue.
     fn was_completed(&mut self, guest: u8, identifier: u16, places: u16) -> bool {
+        self.was_completed_in(COMPLETIONS, guest, identifier, places)
+    }
+
+    // The same of the queue at that address.
+    fn was_completed_in(&mut self, queue: u64, guest: u8, identifier: u16, places: u16) -> bool {
         for place in 0..places {
-            let bytes = self.bytes_at(guest, COMPLETIONS + 16 * u64::from(place % SLOTS));
+            let bytes = self.bytes_at(guest, queue | 16 * u64::from(place % SLOTS));
             let mut first = [0; 16];
             first.copy_from_slice(&bytes[..16]);
             let entry = Cqe::of(&first);
@@ -318,6 +358,64 @@ fn a_full_queue_holds_up_nobody_else(rt: HostRuntime) {
     assert!(rt; shop.does(0, &Deed::Doorbell(HEAD, 1)));
     assert_eq!(rt; shop.works(), (1, true));
     assert!(rt; shop.was_completed(0, SLOTS, SLOTS));
+}
+
+// The first completion queue of the first guest is full, and three of its commands wait for room there. Commands of its second queue, and of the other guest,
+// are completed all the same, whether these were taken before or after; and so are the three, one by one, as there is room.
+fn plays_beside_a_full_queue(rt: &impl Abort, alloc: Global, way: Way, after: bool) {
+    let mut shop = opened(rt, alloc, way);
+    assert!(rt; shop.makes_second_pair(0));
+    for _ in 0..SLOTS - 1 {
+        assert!(rt; shop.enters(0, flush()));
+    }
+    assert!(rt; shop.goes_round(rt) > 0);
+    if after {
+        enters_three(rt, &mut shop);
+    }
+    assert!(rt; shop.enters_second(0, 0) && shop.enters_second(0, 1));
+    assert!(rt; shop.enters(1, flush()) && shop.enters(1, flush()));
+    assert_eq!(rt; shop.works(), (8, true));
+    if !after {
+        enters_three(rt, &mut shop);
+    }
+    shop.drives_all();
+    // All seven are reaped, and four are posted.
+    assert_eq!(rt; shop.works(), (11, true));
+    for identifier in 0..2 {
+        assert!(rt; shop.was_completed_in(SECOND_COMPLETIONS, 0, identifier, 2));
+        assert!(rt; shop.was_completed(1, identifier + 1, 2));
+    }
+    assert_eq!(rt; shop.works(), (0, true));
+    assert!(rt; shop.does(0, &Deed::Doorbell(SECOND_HEAD, 2)));
+    assert_eq!(rt; shop.works(), (0, true));
+    assert!(rt; shop.does(0, &Deed::Doorbell(HEAD, 1)));
+    assert_eq!(rt; shop.works(), (1, true));
+    assert!(rt; shop.does(0, &Deed::Doorbell(HEAD, 3)));
+    assert_eq!(rt; shop.works(), (2, true));
+}
+
+// The first guest enters three commands into its first queue, which are taken and handed on.
+fn enters_three(rt: &impl Abort, shop: &mut Shop) {
+    for _ in 0..3 {
+        assert!(rt; shop.enters(0, flush()));
+    }
+    assert_eq!(rt; shop.works(), (6, true));
+}
+
+/// Beside commands that wait for room in one queue, those of other queues and guests, by work of all.
+#[test]
+fn a_full_queue_holds_up_no_other(rt: HostRuntime) {
+    plays_beside_a_full_queue(&rt, rt.alloc(), Way::All, true);
+    plays_beside_a_full_queue(&rt, rt.alloc(), Way::All, false);
+}
+
+/// The same by work of each guest and each lane, and by one event at a time.
+#[test]
+fn it_does_not_in_other_ways(rt: HostRuntime) {
+    plays_beside_a_full_queue(&rt, rt.alloc(), Way::Scopes, true);
+    plays_beside_a_full_queue(&rt, rt.alloc(), Way::Scopes, false);
+    plays_beside_a_full_queue(&rt, rt.alloc(), Way::Steps, true);
+    plays_beside_a_full_queue(&rt, rt.alloc(), Way::Steps, false);
 }
 
 /// A completion that names no command ends the call; nothing is taken for its lane once that is closed.

@@ -1,10 +1,13 @@
 -- Lanes that are the same but for the places of parts: what is kept of them, told of their tags, and counted of them is the same.
-use Rattle.std.proofs.Common.{◌≡◌, ℕ, ◌/◌, ◌%◌, Bool, ◌&&◌, List, [], ◌∷◌, length, map, slice_get, Option, Some, None, refl, sym, ap, ◌∙◌, subst}
+use Rattle.std.proofs.Common.{◌≡◌, ℕ, ◌+◌, ◌/◌, ◌%◌, Bool, ◌&&◌, cond, List, [], ◌∷◌, length, map, slice_get, Option, Some, None, refl, sym, ap, ◌∙◌, subst}
+use Rattle.std.specs.List.{count_by}
 use Rattle.std.specs.Option.{option_map}
 use Rattle.std.proofs.lemmas.List.{length-map}
 use Rattle.std.proofs.lemmas.Option.{slice_get-map}
 use mathlib.Core.Path.{fun_ext}
+use Rattle.nv_core.proofs.HeldTags.{count-cons}
 use Rattle.nv_core.specs.Front.{IsBeside, IsSideOf, Side}
+use Rattle.nv_core.specs.Held.{held_in, is_of}
 use Rattle.nv_core.specs.Jobs.{holder_in, job_in}
 use Rattle.nv_core.specs.Kept.{AreKept}
 use Rattle.nv_core.specs.Submit.{IsCurrentIn, IsOfTag}
@@ -135,6 +138,30 @@ module _ (ls ks : List Lane) (same : map unplaced_lane ls ≡ map unplaced_lane 
       plain (Some (Taken command reads)) = refl
       plain (Some (Flying command share at)) = refl
       plain (Some (Ended command st share)) = refl
+
+  -- a guest has as many tags of a lane
+  pub held-alike : (guest lane : ℕ) → held_in guest (slice_get ls lane) ≡ held_in guest (slice_get ks lane)
+  held-alike guest lane = sym (plain (slice_get ls lane)) ∙ ap (held_in guest) there ∙ plain (slice_get ks lane)
+    where
+      there : option_map unplaced_lane (slice_get ls lane) ≡ option_map unplaced_lane (slice_get ks lane)
+      there = sym (slice_get-map unplaced_lane ls lane) ∙ ap (λ (xs : List Lane). slice_get xs lane) same ∙ slice_get-map unplaced_lane ks lane
+
+      owner : (t : Tag) → is_of guest (unplaced_tag t) ≡ is_of guest t
+      owner Free = refl
+      owner (Taken command reads) = refl
+      owner (Flying command share at) = refl
+      owner (Ended command st share) = refl
+
+      tags : (ts : List Tag) → count_by (is_of guest) (map unplaced_tag ts) ≡ count_by (is_of guest) ts
+      tags [] = refl
+      tags (t ∷ ts) =
+          count-cons (is_of guest) (unplaced_tag t) (map unplaced_tag ts)
+          ∙ ap (λ (b : Bool). cond b 1 0 + count_by (is_of guest) (map unplaced_tag ts)) (owner t)
+          ∙ ap (λ n. cond (is_of guest t) 1 0 + n) (tags ts) ∙ sym (count-cons (is_of guest) t ts)
+
+      plain : (o : Option Lane) → held_in guest (option_map unplaced_lane o) ≡ held_in guest o
+      plain None = refl
+      plain (Some l) = tags l.tags
 
   pub job-alike : (lane tag : ℕ) → job_in lane tag (tag_in (slice_get ls lane) tag) ≡ job_in lane tag (tag_in (slice_get ks lane) tag)
   job-alike lane tag =

@@ -5,7 +5,7 @@ use Rattle.std.specs.Prelude.{IfSome}
 use Rattle.std.proofs.lemmas.List.{length-set}
 use Rattle.std.proofs.lemmas.Option.{slice_get_past}
 use Rattle.std.specs.List.{slice_index_or}
-use Rattle.nv_core.proofs.Alike.{as-many, beside-told, holder-alike, job-alike, kept-alike}
+use Rattle.nv_core.proofs.Alike.{as-many, beside-told, held-alike, holder-alike, job-alike, kept-alike}
 use Rattle.nv_core.proofs.DeviceNeeds.{holding-at}
 use Rattle.nv_core.proofs.DevicePosts.{answered, ended-by, post-done, post-not}
 use Rattle.nv_core.proofs.DeviceSteps.{same-world}
@@ -17,6 +17,7 @@ use Rattle.nv_core.proofs.PlacesFollow.{lanes-unplaced, places-found}
 use Rattle.nv_core.proofs.Sides.{in-each, rung-one, rung-same, set-nowhere}
 use Rattle.nv_core.proofs.KeptStates.{kept-of, length-tails, tail-of}
 use Rattle.nv_core.specs.Front.{ComesTo, HasTailMoved, IsBeside, IsLive, IsLiveStep, IsSideOf, IsSideStep, IsStepInEach, Side, rung_with, tails_of}
+use Rattle.nv_core.specs.Held.{held_in}
 use Rattle.nv_core.specs.Jobs.{holder_in, holder_of, job_in, job_of}
 use Rattle.nv_core.specs.Kept.{AreKept, IsKept, IsLent}
 use Rattle.nv_core.specs.Seat.{IsLoaded}
@@ -277,6 +278,11 @@ module _ (host : List ℕ) (device : Physical) (front : Side) (old : State) (sam
   pub holder-here : (lane tag : ℕ) → holder_in (tag_in (slice_get front.lanes lane) tag) ≡ holder_of (world_of old) lane tag
   holder-here lane tag =
       holder-alike front.lanes (state_of host device front).lanes found-here lane tag ∙ ap (λ (o : State). holder_of (world_of o) lane tag) same
+
+  pub held-here : (guest lane : ℕ) → held_in guest (slice_get front.lanes lane) ≡ held_in guest (slice_get (world_of old).lanes lane)
+  held-here guest lane =
+      held-alike front.lanes (state_of host device front).lanes found-here guest lane
+      ∙ ap (λ (o : State). held_in guest (slice_get (world_of o).lanes lane)) same
 
 -- the same where the host is lent as a slice of one
 module _ (geometry : Geometry) (hosts : List (List ℕ)) (host : List ℕ) (is : hosts ≡ host ∷ []) (device : Physical) (front : Side) (old : State)

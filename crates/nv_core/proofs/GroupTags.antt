@@ -39,7 +39,7 @@ one-number test number from t tags here behind false is =
     ∙ behind
     ∙ sym (number-here number from (length tags) false (here ∙ is))
 
-numbers-from : (test : Tag → Bool) (number : ℕ → Bool) (from : ℕ) (tags : List Tag)
+pub numbers-from : (test : Tag → Bool) (number : ℕ → Bool) (from : ℕ) (tags : List Tag)
     → ((i : ℕ) (t : Tag) → slice_get tags i ≡ Some t → test t ≡ number (from + i))
     → map (λ (u : ℕ × Tag). u.0) (filter (λ (u : ℕ × Tag). test u.1) (enumerate_from from tags)) ≡ holding number from (length tags)
 numbers-from test number from [] same = refl

@@ -10,7 +10,6 @@ use Rattle.nv_core.proofs.TagLists.{made-at}
 use Rattle.nv_tags.specs.Tags.{Slot, tags_where}
 use Rattle.nv_tags.specs.Tags as slot
 use Rattle.nv_world_model.specs.World.{Lane, Tag}
-use Rattle.nv_world_model.specs.World as world
 
 made-held : (kept : List Progress) (s : Slot) (p : Progress) (guest : ℕ) → IsUsed kept s p → is_of guest (tag_made kept s p) ≡ slot.is_of guest s
 made-held kept slot.Free p guest is = refl

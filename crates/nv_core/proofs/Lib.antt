@@ -19,6 +19,7 @@ pub mod DeviceTakes
 pub mod ReapAnswers
 pub mod Reaps
 pub mod Dues
+pub mod FullQueues
 pub mod PartKinds
 pub mod Delivers
 pub mod PostParts

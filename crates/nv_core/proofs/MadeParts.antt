@@ -19,7 +19,7 @@ use Rattle.nv_laws_sound.proofs.Numbers.{all-at}
 use Rattle.nv_laws_sound.proofs.OwnWork.{IsOwn, IsRow, own-of, own_len}
 use Rattle.nv_laws_sound.proofs.Planned.{Answers, IsAnswerOr, IsWhole, Plans, plan_over-is, shares-planned, shares-whole}
 use Rattle.nv_laws_sound.proofs.PlanSizes.{own-few, ranges-few}
-use Rattle.nv_laws_sound.proofs.SourceRuns.{source-runs}
+use Rattle.nv_model.proofs.SourceRuns.{source-runs}
 use Rattle.nv_mem.specs.GuestMap.{mapped}
 use Rattle.nv_mem.specs.Places.{places_of, total_len}
 use Rattle.nv_mem.specs.declared.region.Region.{Region}

@@ -1,6 +1,7 @@
 pub mod Places
 pub mod State
 pub mod Front
+pub mod FullQueues
 pub mod Kept
 pub mod Noted
 pub mod Held

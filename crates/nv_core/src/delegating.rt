@@ -1,12 +1,14 @@
 //! The events of guests and of the mediator, by its front with the host's memory and the physical controller's doorbells.
 
-ghost use Rattle.std.specs.Prelude.{◌≡◌, ◌↔◌, IfOk, IfSome, IsSome, IsTrue, None, OnErr, Some, length};
+ghost use Rattle.std.specs.Prelude.{◌≡◌, ◌↔◌, ◌<◌, IfOk, IfSome, IsSome, IsTrue, None, OnErr, Some, length, slice_get};
 ghost use Rattle.nv_core.specs.Front.{HasTailMoved, rung_with, tails_of};
+ghost use Rattle.nv_core.specs.Held.{held_in};
 ghost use Rattle.nv_core.specs.Jobs.{holder_of, job_of};
 ghost use Rattle.nv_core.specs.Seat.{IsLoaded, bytes_told, is_long_load};
 ghost use Rattle.nv_core.specs.State.{CountsMore, IsOf, IsStep, world_of};
 ghost use Rattle.nv_core.specs.Submit.{IsCurrent};
 ghost use Rattle.nv_laws_sound.specs.Counted.{IsCounted};
+ghost use Rattle.nv_world_model.specs.SetUp.{most_guests};
 
 use crate::front::Front;
 use crate::holding::Holder;
@@ -14,6 +16,7 @@ use crate::layout::Layout;
 use crate::state::Core;
 use nv_device::Device;
 use nv_mem::{Bytes, NoMemory};
+use nv_model::limits::MOST_GUESTS;
 use nv_model::{Act, Reply};
 use nv_plan::{Job, Plan};
 use nv_world_model::Event;
@@ -205,6 +208,16 @@ impl Core {
         ensures { result ≡ holder_of (world_of self.now) lane tag }
     {
         self.front.holder(lane, tag)
+    }
+
+    /// How many tags of a lane the commands of a guest have. There are none of a number from 16 on, which is no guest's, and none where there is no such lane.
+    pub fn held_by(&self, lane: u8, guest: u8) -> u8
+        ensures { guest < most_guests → result ≡ held_in guest (slice_get (world_of self.now).lanes lane) }
+    {
+        if guest >= MOST_GUESTS {
+            return 0;
+        }
+        self.front.held_by(lane, guest)
     }
 
     /// The job of a tag that was taken: its command, and a copy of what was read of its lists so far. `None` where

@@ -149,8 +149,8 @@ fn have_ended(tag: u8, ring: &Lane) -> bool
     ring.outcome(tag).is_some()
 }
 
-// Whether a taken command of a queue may end: with a completion, for which there is room, or without one after a reset.
-fn may_end(queue: u16, vctl: &Vctl) -> bool
+/// Whether a taken command of a queue may end: with a completion, for which there is room, or without one after a reset.
+pub(crate) fn may_end(queue: u16, vctl: &Vctl) -> bool
     ensures { (cid : ℕ) (st : StatusField) → result ≡ (if is_enabled vctl.now then is_some (post vctl.now queue 0 cid st) else true) }
 {
     if !vctl.is_enabled() {

@@ -35,6 +35,7 @@ mod device_events;
 mod due;
 mod front;
 mod front_due;
+mod full;
 mod handing;
 mod holding;
 mod interrupts;

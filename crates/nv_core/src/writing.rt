@@ -6,7 +6,7 @@ ghost use Rattle.nv_core.specs.Submit.{HasRoom, IsPlaced};
 ghost use Rattle.nv_entry.specs.Layout.{number_bytes};
 ghost use Rattle.nv_entry.specs.Submission.{opcode_of};
 ghost use Rattle.nv_mem.specs.GuestMap.{span_met};
-ghost use Rattle.nv_model.specs.Limits.{most_bytes};
+ghost use Rattle.nv_model.specs.Limits.{most_bytes, range_size};
 ghost use Rattle.nv_model.specs.Memory.{byte_in, stored};
 ghost use Rattle.nv_plan.specs.Made.{IsJobsPlan, share_made, shares_made};
 ghost use Rattle.nv_prp.specs.Built.{built};
@@ -136,7 +136,7 @@ fn store_numbers<C: MemoryCell>(numbers: &[u64], at: u64, host: &mut [C])
 
 // Stores ranges from host address `at` on.
 fn store_ranges<C: MemoryCell>(ranges: &[Range], at: u64, host: &mut [C])
-    requires { at + 16 * length ranges.now ≤ length (C.bytes host.old) }
+    requires { at + range_size * length ranges.now ≤ length (C.bytes host.old) }
     ensures bytes { byte_in (C.bytes host.new) ≡ stored (byte_in (C.bytes host.old)) at (flat_map (λ (r : List ℕ). r) ranges.now) }
     ensures len { length (C.bytes host.new) ≡ length (C.bytes host.old) }
 {

@@ -10,6 +10,7 @@ use Rattle.nv_mem.specs.Places.{places_of}
 use Rattle.nv_model.specs.Judge.{count_of, has_blocks, transfer_len}
 use Rattle.nv_model.specs.Limits.{block, page}
 use Rattle.nv_world_model.specs.Area.{lane_start, ring_size, tag_count}
+use Rattle.nv_world_model.specs.SetUp.{most_lanes as lane_limit}
 use Rattle.nv_world_model.specs.Device.{DeviceLane, Held, opening_device_lane, unit_count}
 use Rattle.nv_device.specs.State.{Physical}
 use Rattle.nv_device.specs.declared.response.Response.{Response}
@@ -22,7 +23,7 @@ use Rattle.nv_device.specs.declared.response.Response.TheVariants.{Done, Idle}
 pub record FitsLimits (mediator lanes blocks : ℕ) : Type 0 where
   pub pages : mediator % page ≡ 0
   pub some_lanes : 0 < lanes
-  pub most_lanes : lanes ≤ 8
+  pub most_lanes : lanes ≤ lane_limit
   pub some_blocks : 0 < blocks
   pub most_blocks : blocks ≤ 2097152
   pub area : lane_start mediator lanes ≤ 2 ^ 64

@@ -2,6 +2,8 @@
 
 ghost use Rattle.std.specs.Prelude.{◌≡◌, ◌+◌, ◌<◌, ◌≤◌, ◌↔◌, Bool, List, true, false, nat_lt, replicate, IfOk, IsTrue, length, slice_set};
 ghost use Rattle.std.specs.List.{slice_index_or};
+ghost use Rattle.nv_model.specs.Queue.{cqe_size, sqe_size};
+ghost use Rattle.nv_world_model.specs.SetUp.{most_lanes};
 ghost use Rattle.nv_world_model.specs.Area.{completion_slot, lane_start, ring_size, submission_slot};
 ghost use Rattle.nv_world_model.specs.Device.{opening_device_lane};
 ghost use Rattle.nv_device.specs.Physical.{FitsLimits, HoldsArea, done_where, lane_of, opening_physical, with_lane};
@@ -76,7 +78,7 @@ impl Device {
     /// How many lanes there are.
     pub fn lanes(&self) -> u8
         ensures value { result ≡ length self.now.lanes }
-        ensures most { result ≤ 8 }
+        ensures most { result ≤ most_lanes }
     {
         let _known = &self.mediator;
         self.lanes.len() as u8
@@ -159,7 +161,7 @@ impl Device {
         requires lane { lane < length self.now.lanes }
         requires at { at < ring_size }
         ensures value { result ≡ submission_slot self.now.mediator lane at }
-        ensures inside { result + 64 ≤ lane_start self.now.mediator (length self.now.lanes) }
+        ensures inside { result + sqe_size ≤ lane_start self.now.mediator (length self.now.lanes) }
     {
         self.mediator + LANE_SIZE * u64::from(lane) + SQE_SIZE * u64::from(at)
     }
@@ -169,7 +171,7 @@ impl Device {
         requires lane { lane < length self.now.lanes }
         requires at { at < ring_size }
         ensures value { result ≡ completion_slot self.now.mediator lane at }
-        ensures inside { result + 16 ≤ lane_start self.now.mediator (length self.now.lanes) }
+        ensures inside { result + cqe_size ≤ lane_start self.now.mediator (length self.now.lanes) }
     {
         self.mediator
             + LANE_SIZE * u64::from(lane)

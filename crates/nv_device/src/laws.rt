@@ -15,6 +15,8 @@ ghost use Rattle.nv_device.specs.Physical.{lane_of, with_lane};
 ghost use Rattle.nv_device.specs.State.{Physical};
 ghost use Rattle.nv_device.specs.Posting.{IsPosted};
 ghost use Rattle.nv_device.specs.Taking.{front_of, taken};
+ghost use Rattle.nv_model.specs.Queue.{cqe_size};
+ghost use Rattle.nv_world_model.specs.SetUp.{most_lanes};
 
 /// A call on one lane leaves the other lanes as they were: their positions and the commands in them.
 pub fn a_call_leaves_the_other_lanes()
@@ -45,13 +47,13 @@ pub fn a_call_leaves_the_bytes_of_other_lanes()
 pub fn a_posted_completion_is_the_standards()
     ensures entry { (lane slot : ℕ) (st : StatusField) (old_host new_host : List ℕ) (old new : Physical) →
         IsPosted lane slot st old_host old new_host new →
-        (lane_of old lane).head < ring_size → lane < 8 → slot < tag_count → st.sct < 8 → st.sc < 256 →
+        (lane_of old lane).head < ring_size → lane < most_lanes → slot < tag_count → st.sct < 8 → st.sc < 256 →
         IsCompletion 0 (lane_of old lane).head (lane + 1) slot (lane_of old lane).phase st
         (bytes_from (byte_in new_host) (completion_slot old.mediator lane (lane_of old lane).posted) 16) }
     ensures others { (lane slot at : ℕ) (st : StatusField) (old_host new_host : List ℕ) (old new : Physical) →
         IsPosted lane slot st old_host old new_host new →
         (at < completion_slot old.mediator lane (lane_of old lane).posted)
-        ⊎ (completion_slot old.mediator lane (lane_of old lane).posted + 16 ≤ at) →
+        ⊎ (completion_slot old.mediator lane (lane_of old lane).posted + cqe_size ≤ at) →
         byte_in new_host at ≡ byte_in old_host at }
 {}
 

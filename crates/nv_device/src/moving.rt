@@ -5,6 +5,7 @@ ghost use Rattle.nv_entry.specs.Opcode.{io_opcode};
 ghost use Rattle.nv_entry.specs.Submission.{opcode_of, slba_of};
 ghost use Rattle.nv_mem.specs.Places.{places_of};
 ghost use Rattle.nv_disk.specs.Buffer.{AreBelow};
+ghost use Rattle.nv_model.specs.Limits.{block, range_size};
 ghost use Rattle.nv_model.specs.Memory.{byte_in};
 ghost use Rattle.nv_disk.specs.Flat.{flat, moved_of};
 ghost use Rattle.nv_model.specs.Carrying.{cleared};
@@ -216,7 +217,7 @@ fn manage_unit(
 fn range_of(command: &Command, number: u64, host: &Host) -> Range
     requires bytes { AreBelow (length host.now) (places_of command.now.pieces) }
     requires number { number < 2 ^ 8 }
-    requires enough { 16 * number + 16 ≤ length (places_of command.now.pieces) }
+    requires enough { range_size * number + range_size ≤ length (places_of command.now.pieces) }
     ensures { result ≡ range_at number command.now.pieces (byte_in host.now) }
 {
     // The end of the host fits in 64 bits, and so do its addresses.
@@ -299,9 +300,9 @@ fn block_of<'a>(command: &'a Command, number: u64, host: &Host, disk: &Blocks) -
     requires transfer { moves_blocks (io_opcode (opcode_of command.now.entry)) ≡ true }
     ensures lba { result.0 ≡ slba_of command.now.entry + number }
     ensures there { result.0 < length disk.now }
-    ensures places { result.1 ≡ drop (512 * number) (places_of command.now.pieces) }
+    ensures places { result.1 ≡ drop (block * number) (places_of command.now.pieces) }
     ensures below { AreBelow (length host.now) result.1 }
-    ensures enough { 512 ≤ length result.1 }
+    ensures enough { block ≤ length result.1 }
 {
     // Numbers of blocks and host addresses fit in 64 bits.
     let (_blocks, _size) = (disk.len(), host.len());

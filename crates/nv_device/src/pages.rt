@@ -7,6 +7,7 @@ ghost use Rattle.nv_model.specs.Memory.{byte_in, bytes_from};
 ghost use Rattle.nv_model.specs.Prp.{pages_of, slots_of};
 ghost use Rattle.nv_model.specs.Reading.{Spells};
 ghost use Rattle.nv_device.specs.Pages.{ArePaged, IsEntryAt, behind_reading, entries_reading, host_reading, spells};
+ghost use Rattle.nv_model.specs.Limits.{page};
 
 use byteorder::{ByteOrder, LittleEndian};
 use nv_mem::{Host, NoMemory, PAGE_SIZE, Piece, Places};
@@ -79,8 +80,8 @@ fn read_list(
     places: &mut Places,
 ) -> Result<(), NoMemory>
     requires aligned { list % 8 ≡ 0 }
-    requires most { bytes ≤ 4096 * pages }
-    requires full { 4096 * pages < bytes + 4096 }
+    requires most { bytes ≤ page * pages }
+    requires full { page * pages < bytes + page }
     requires spelled { spells (entries_reading host.now pages (slots_of list) list bytes places.old) ≡ true }
     requires there { list + 8 * min (slots_of list) pages ≤ length host.now }
     requires first { length places.old ≡ 1 }

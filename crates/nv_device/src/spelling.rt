@@ -4,6 +4,7 @@ ghost use Rattle.std.specs.Prelude.{◌≡◌, ◌+◌, ◌*◌, ◌%◌, ◌^�
 ghost use Rattle.nv_mem.specs.declared.piece.Piece.{Piece};
 ghost use Rattle.nv_model.specs.Prp.{entry_fault, pages_of, slots_of};
 ghost use Rattle.nv_device.specs.Pages.{IsNextEntry, behind_reading, entries_reading, host_reading, in_host, spells};
+ghost use Rattle.nv_model.specs.Limits.{page};
 
 use crate::pages::{SLOTS, pages_of, slot};
 use nv_mem::{Host, PAGE_SIZE};
@@ -37,8 +38,8 @@ fn behind_spells(host: &Host, prp2: u64, bytes: u64) -> bool
 /// The same of the entries of a list.
 fn list_spells(host: &Host, list: u64, pages: u64, bytes: u64) -> bool
     requires aligned { list % 8 ≡ 0 }
-    requires most { bytes ≤ 4096 * pages }
-    requires full { 4096 * pages < bytes + 4096 }
+    requires most { bytes ≤ page * pages }
+    requires full { page * pages < bytes + page }
     requires there { list + 8 * min (slots_of list) pages ≤ length host.now }
     ensures { (pieces : List Piece) → result ≡ spells (entries_reading host.now pages (slots_of list) list bytes pieces) }
 {

@@ -1,9 +1,9 @@
 -- Blocks that are read, or compared, all at once
 use Rattle.std.proofs.Common.{◌≡◌, ℕ, zero, suc, ◌+◌, ◌*◌, ◌<◌, ◌≤◌, Bool, false}
-use Rattle.std.proofs.Common.{◌||◌, List, [], ◌∷◌, ◌++◌, length, take, drop, refl, sym, ap, ◌∙◌, arith}
+use Rattle.std.proofs.Common.{◌||◌, List, [], ◌++◌, length, take, drop, refl, sym, ap, ◌∙◌, arith}
 use Rattle.std.specs.List.{slice_index_or}
 use Rattle.std.proofs.lemmas.List.{drop-drop, length-drop, length-take-le, take-append-drop}
-use Rattle.std.proofs.Math.Seq.{drop-cons}
+use Rattle.std.proofs.Math.Seq.{drop-cons, take-add}
 use Rattle.nv_entry.specs.declared.opcode.IoOpcode.TheVariants.{Compare, Read}
 use Rattle.nv_mem.specs.Places.{Place, places_of}
 use Rattle.nv_mem.specs.declared.piece.Piece.{Piece}
@@ -79,16 +79,6 @@ read-moved_all memory new disk kept marks places start count fua within sized en
 
 -- ---- blocks that are compared
 
--- the first places, in two parts
-take-sum : (n k : ℕ) (places : List Place) → take (n + k) places ≡ take n places ++ take k (drop n places)
-take-sum zero k places = (let e : zero + k ≡ k = omega arith in ap (λ (j : ℕ). take j places) e)
-take-sum (suc n) zero [] = (let e : suc n + zero ≡ suc n = omega arith in ap (λ (j : ℕ). take {A = Place} j []) e)
-take-sum (suc n) (suc k) [] =
-    (let e : suc n + suc k ≡ suc (n + suc k) = omega arith in ap (λ (j : ℕ). take {A = Place} j []) e)
-take-sum (suc n) k (place ∷ places) =
-    (let e : suc n + k ≡ suc (n + k) = omega arith in
-    ap (λ (j : ℕ). take j (place ∷ places)) e ∙ ap (λ (ps : List Place). place ∷ ps) (take-sum n k places))
-
 -- the bytes of the first block's places and of those behind them
 compared-more : (m : ℕ → ℕ) (places : List Place) (n : ℕ) (block rest : List ℕ) (differed : Bool) → length block ≡ 512
     → 512 ≤ length places
@@ -101,7 +91,7 @@ compared-more m places n block rest differed sized enough =
     let sum : 512 + 512 * n ≡ 512 * suc n = omega arith in
     let all : one ++ more ≡ gathered m (take (512 * suc n) places) =
     sym (gathered-append m (take 512 places) (take (512 * n) (drop 512 places)))
-    ∙ ap (gathered m) (sym (take-sum 512 (512 * n) places) ∙ ap (λ (k : ℕ). take k places) sum) in
+    ∙ ap (gathered m) (sym (take-add 512 (512 * n) places) ∙ ap (λ (k : ℕ). take k places) sum) in
     sym (or-assoc differed (differs one block) (differs more rest))
     ∙ ap (λ (b : Bool). differed || b) (sym (differs-append one block more rest len) ∙ ap (λ (l : List ℕ). differs l (block ++ rest)) all)
 

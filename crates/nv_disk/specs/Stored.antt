@@ -2,6 +2,7 @@
 use Rattle.std.specs.Prelude.{◌≡◌, ◌≢◌, ℕ, ◌-◌, ◌/◌, ◌%◌, ◌<◌, ◌≤◌, ◌^◌, ◌==◌}
 use Rattle.std.specs.Prelude.{◌||◌, ◌⊎◌, Bool, not, nat_lt, cond, List, [], ◌∷◌, All, length, map, replicate}
 use Rattle.std.specs.List.{count_by, slice_index_or}
+use Rattle.nv_model.specs.Limits.{block as block_size}
 
 -- the place of a block, from 1 on; 0 where it has none
 abbrev pub place_of : ℕ → ℕ
@@ -13,7 +14,7 @@ is_blank entry = nat_lt entry 2 || entry % 2 == 1
 
 -- what a block holds
 unfoldable pub shown : List (List ℕ) → ℕ → List ℕ
-shown stored entry = cond (is_blank entry) (replicate 512 0) (slice_index_or stored (place_of entry - 1) [])
+shown stored entry = cond (is_blank entry) (replicate block_size 0) (slice_index_or stored (place_of entry - 1) [])
 
 -- the blocks of these entries
 unfoldable pub blocks_of : List (List ℕ) → List ℕ → List (List ℕ)
@@ -34,7 +35,7 @@ is_stored place = not (place == 0)
 
 -- each place has a block's bytes, each block a place of its own or none, and there is room for the others
 pub record IsStored (capacity : ℕ) (places : List ℕ) (stored : List (List ℕ)) : Type 0 where
-  pub sized : All (λ block. length block ≡ 512) stored
+  pub sized : All (λ block. length block ≡ block_size) stored
   pub there : All (λ place. place ≤ length stored) places
   pub apart : AreApart places
   pub counted : count_by is_stored places ≡ length stored

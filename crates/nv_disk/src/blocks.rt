@@ -3,6 +3,7 @@
 ghost use Rattle.std.specs.Prelude.{◌≡◌, true, ◌+◌, ◌++◌, ◌*◌, ◌/◌, ◌<◌, ◌≤◌, ◌^◌, ℕ};
 ghost use Rattle.std.specs.Prelude.{All, List, [], length, replicate, slice_index, slice_set, take, drop, IfOk, vec_capacity};
 ghost use Rattle.std.specs.List.{slice_index_or};
+ghost use Rattle.nv_model.specs.Limits.{block as block_size};
 ghost use Rattle.nv_model.specs.Memory.{byte_in, gathered};
 ghost use Rattle.nv_disk.specs.Buffer.{AreBelow};
 ghost use Rattle.nv_disk.specs.Stored.{IsStored, blocks_of, is_blank, places_of};
@@ -77,7 +78,7 @@ impl Blocks {
     /// [`NoMemory`] where memory for the blocks is refused.
     pub fn new(alloc: Global, count: usize) -> Result<Self, NoMemory>
         requires { count < 2 ^ 31 }
-        ensures { IfOk result (λ blocks. blocks ≡ replicate count (replicate 512 0)) }
+        ensures { IfOk result (λ blocks. blocks ≡ replicate count (replicate block_size 0)) }
     {
         let stored = Vec::with_capacity(alloc, count)?;
         let entries = no_entries(alloc, count)?;
@@ -87,7 +88,7 @@ impl Blocks {
     /// How many blocks there are. Each has 512 bytes.
     pub fn len(&self) -> usize
         ensures value { result ≡ length self.now }
-        ensures sized { All (λ block. length block ≡ 512) self.now }
+        ensures sized { All (λ block. length block ≡ block_size) self.now }
     {
         self.entries.len()
     }
@@ -96,7 +97,7 @@ impl Blocks {
     pub fn block(&self, block: usize) -> &[u8; BLOCK_SIZE]
         requires { block < length self.now }
         ensures value { (other : List ℕ) → result.now ≡ slice_index_or self.now block other }
-        ensures sized { length result.now ≡ 512 }
+        ensures sized { length result.now ≡ block_size }
     {
         let entry = self.entries[block] as usize;
         if is_blank(entry) {
@@ -135,7 +136,7 @@ impl Blocks {
     /// Makes a block zeros. It is noted, and none of its bytes is written.
     pub fn clear(&mut self, block: usize)
         requires { block < length self.old }
-        ensures { self.new ≡ slice_set self.old block (replicate 512 0) }
+        ensures { self.new ≡ slice_set self.old block (replicate block_size 0) }
     {
         blank(&mut self.entries, block);
     }
@@ -144,7 +145,7 @@ impl Blocks {
     /// they have a place, so that they lie in a row with those around them still.
     pub fn clear_range(&mut self, start: usize, count: usize)
         requires { start + count ≤ length self.old }
-        ensures { self.new ≡ take start self.old ++ (replicate count (replicate 512 0) ++ drop (start + count) self.old) }
+        ensures { self.new ≡ take start self.old ++ (replicate count (replicate block_size 0) ++ drop (start + count) self.old) }
     {
         if count < PAGE_BLOCKS {
             self.zero_range(start, count);
@@ -156,7 +157,7 @@ impl Blocks {
     // The same of blocks that are noted.
     fn note_range(&mut self, start: usize, count: usize)
         requires { start + count ≤ length self.old }
-        ensures { self.new ≡ take start self.old ++ (replicate count (replicate 512 0) ++ drop (start + count) self.old) }
+        ensures { self.new ≡ take start self.old ++ (replicate count (replicate block_size 0) ++ drop (start + count) self.old) }
     {
         clear_entries(&mut self.entries, start, count);
     }
@@ -164,7 +165,7 @@ impl Blocks {
     // The same of blocks that are written where they have a place.
     fn zero_range(&mut self, start: usize, count: usize)
         requires { start + count ≤ length self.old }
-        ensures { self.new ≡ take start self.old ++ (replicate count (replicate 512 0) ++ drop (start + count) self.old) }
+        ensures { self.new ≡ take start self.old ++ (replicate count (replicate block_size 0) ++ drop (start + count) self.old) }
     {
         // The number of blocks fits, and so does the end of the range.
         let _known = self.len();
@@ -176,7 +177,7 @@ impl Blocks {
     // Makes a block zeros, and writes them where it has a place.
     fn zero(&mut self, block: usize)
         requires { block < length self.old }
-        ensures { self.new ≡ slice_set self.old block (replicate 512 0) }
+        ensures { self.new ≡ slice_set self.old block (replicate block_size 0) }
     {
         if self.entries[block] < 2 {
             self.clear(block);
@@ -190,9 +191,9 @@ impl Blocks {
     pub fn fetch(&mut self, block: usize, memory: &Host, buffer: &mut Buffer)
         requires block { block < length self.old }
         requires in_memory { AreBelow (length memory.now) buffer.old }
-        requires enough { 512 ≤ length buffer.old }
-        ensures bytes { self.new ≡ slice_set self.old block (gathered (byte_in memory.now) (take 512 buffer.old)) }
-        ensures rest { buffer.new ≡ drop 512 buffer.old }
+        requires enough { block_size ≤ length buffer.old }
+        ensures bytes { self.new ≡ slice_set self.old block (gathered (byte_in memory.now) (take block_size buffer.old)) }
+        ensures rest { buffer.new ≡ drop block_size buffer.old }
     {
         let place = settle(&mut self.entries, &mut self.stored, block);
         buffer.fetch(memory, &mut self.stored[place]);
@@ -304,7 +305,7 @@ fn blank(entries: &mut Vec<u32>, block: usize)
 fn clear_entries(entries: &mut [u32], start: usize, count: usize)
     requires { start + count ≤ length entries.old }
     ensures shown { (stored : List (List ℕ)) → blocks_of stored entries.new
-        ≡ take start (blocks_of stored entries.old) ++ (replicate count (replicate 512 0) ++ drop (start + count) (blocks_of stored entries.old)) }
+        ≡ take start (blocks_of stored entries.old) ++ (replicate count (replicate block_size 0) ++ drop (start + count) (blocks_of stored entries.old)) }
     ensures places { places_of entries.new ≡ places_of entries.old }
     ensures size { length entries.new ≡ length entries.old }
 {
@@ -366,7 +367,7 @@ fn count_blank(entries: &[u32], block: usize, most: usize) -> usize
 // So many blocks of zeros.
 fn zero_row(count: usize) -> &'static [[u8; BLOCK_SIZE]]
     requires { count ≤ ZERO_ROW_BLOCKS }
-    ensures { result.now ≡ replicate count (replicate 512 0) }
+    ensures { result.now ≡ replicate count (replicate block_size 0) }
 {
     &ZERO_ROW[..count]
 }

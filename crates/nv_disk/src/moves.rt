@@ -203,7 +203,7 @@ fn blocks_differ(
     requires in_memory { AreBelow (length memory.now) buffer.old }
     requires enough { block_size * count ≤ length buffer.old }
     requires blocks { start + count ≤ length disk.now }
-    ensures { result ≡ differs (gathered (byte_in memory.now) (take (512 * count) buffer.old)) (joined (take count (drop start disk.now))) }
+    ensures { result ≡ differs (gathered (byte_in memory.now) (take (block_size * count) buffer.old)) (joined (take count (drop start disk.now))) }
 {
     // With the number of blocks comes that each has 512 bytes.
     let _known = disk.len();

@@ -1,9 +1,9 @@
 -- The fields of the entry that `completion` builds
-use Rattle.std.proofs.Common.{◌≡◌, ℕ, ◌+◌, ◌*◌, ◌^◌, ◌<◌, Bool, true, false, List, [], ◌∷◌, length, arith, refl}
-use Rattle.nv_entry.specs.Layout.{FitDwords, bits, bytes_of_dwords}
+use Rattle.std.proofs.Common.{◌≡◌, ℕ, ◌+◌, ◌*◌, ◌^◌, ◌<◌, ◌==◌, Bool, true, false, List, [], ◌∷◌, length, arith, refl, ap, ◌∙◌}
+use Rattle.nv_entry.specs.Layout.{FitDwords, bits, bytes_of_dwords, dword, number_at}
 use Rattle.nv_entry.specs.Dwords.{FitDwords-four, dword_back}
-use Rattle.nv_entry.specs.Status.{StatusField, bit}
-use Rattle.nv_entry.specs.Completion.{IsCompletion, completion}
+use Rattle.nv_entry.specs.Status.{StatusField, bit, status}
+use Rattle.nv_entry.specs.Completion.{IsCompletion, completion, dnr_of, sc_of, sct_of, status_of}
 
 -- a bit is below 2
 pub bit-lt : (set : Bool) → bit set < 2
@@ -45,3 +45,33 @@ pub length-completion : (dw0 sqhd sqid cid : ℕ) (phase : Bool) (st : StatusFie
     → length (completion dw0 sqhd sqid cid phase st) ≡ 16
 unfolding completion bytes_of_dwords
 length-completion dw0 sqhd sqid cid phase st = refl
+
+-- ---- its status, whatever stands in its first three dwords
+
+completion-sct : (dw0 sqhd sqid cid : ℕ) (phase : Bool) (st : StatusField) → cid < 2 ^ 16 → st.sct < 8 → st.sc < 256
+    → sct_of (completion dw0 sqhd sqid cid phase st) ≡ st.sct
+unfolding completion bits dword number_at bytes_of_dwords
+completion-sct dw0 sqhd sqid cid phase st below type code = (let p = bit-lt phase in let d = bit-lt st.dnr in omega arith)
+
+completion-sc : (dw0 sqhd sqid cid : ℕ) (phase : Bool) (st : StatusField) → cid < 2 ^ 16 → st.sct < 8 → st.sc < 256
+    → sc_of (completion dw0 sqhd sqid cid phase st) ≡ st.sc
+unfolding completion bits dword number_at bytes_of_dwords
+completion-sc dw0 sqhd sqid cid phase st below type code = (let p = bit-lt phase in let d = bit-lt st.dnr in omega arith)
+
+completion-dnr : (dw0 sqhd sqid cid : ℕ) (phase : Bool) (st : StatusField) → cid < 2 ^ 16 → st.sct < 8 → st.sc < 256
+    → dnr_of (completion dw0 sqhd sqid cid phase st) ≡ bit st.dnr
+unfolding completion bits dword number_at bytes_of_dwords
+completion-dnr dw0 sqhd sqid cid phase st below type code = (let p = bit-lt phase in let d = bit-lt st.dnr in omega arith)
+
+bit-is : (b : Bool) → (bit b == 1) ≡ b
+bit-is true = refl
+bit-is false = refl
+
+-- a status is read back from its completion, whatever queue and head stand there
+pub completion-back : (dw0 sqhd sqid cid : ℕ) (phase : Bool) (st : StatusField) → cid < 2 ^ 16 → st.sct < 8 → st.sc < 256
+    → status_of (completion dw0 sqhd sqid cid phase st) ≡ st
+completion-back dw0 sqhd sqid cid phase st below type code =
+    let entry = completion dw0 sqhd sqid cid phase st in
+    ap (λ (n : ℕ). status n (sc_of entry) (dnr_of entry == 1)) (completion-sct dw0 sqhd sqid cid phase st below type code)
+    ∙ ap (λ (n : ℕ). status st.sct n (dnr_of entry == 1)) (completion-sc dw0 sqhd sqid cid phase st below type code)
+    ∙ ap (status st.sct st.sc) (ap (λ (n : ℕ). n == 1) (completion-dnr dw0 sqhd sqid cid phase st below type code) ∙ bit-is st.dnr)

@@ -10,7 +10,7 @@ use Rattle.nv_entry.specs.Status.{StatusField}
 use Rattle.nv_entry.specs.StatusCode.{done_with}
 use Rattle.nv_entry.specs.declared.opcode.IoOpcode.TheVariants.{DatasetManagement}
 use Rattle.nv_entry.specs.declared.status_code.StatusCode.TheVariants.{Success}
-use Rattle.nv_judge.specs.Need.{need_of}
+use Rattle.nv_judge.specs.Need.{HasFieldsInOrder, need_of}
 use Rattle.nv_judge.specs.Ranges.{ranges_verdict}
 use Rattle.nv_judge.proofs.RangeLemmas.{both-fit, ranges-leave, ranges_in-more, ranges_in-none}
 use Rattle.nv_model.proofs.JudgeCases.{judge_ranges-fits, judge_ranges-refused}
@@ -28,7 +28,7 @@ use Rattle.nv_model.proofs.DialogueLemmas.{in_memory-and_then}
 use Rattle.nv_model.proofs.MemoryLemmas.{length-gathered}
 use Rattle.nv_disk.specs.Flat.{Flat, moved_of}
 use Rattle.nv_flat.specs.Listed.{list_reading}
-use Rattle.nv_flat.specs.One.{HasFieldsInOrder, IsRun, shape_of}
+use Rattle.nv_flat.specs.One.{IsRun, shape_of}
 use Rattle.nv_flat.proofs.DoneLemmas.{list-verdict, range-within}
 use Rattle.nv_flat.proofs.OneLemmas.{moved-run, refused-run}
 use Rattle.nv_flat.proofs.PieceLemmas.{read_source-gathered, spelled-usable}

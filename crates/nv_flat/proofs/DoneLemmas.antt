@@ -10,7 +10,7 @@ use Rattle.nv_entry.specs.declared.opcode.IoOpcode.{IoOpcode}
 use Rattle.nv_entry.specs.declared.opcode.IoOpcode.TheVariants.{Flush, Write, Read, Compare, WriteZeroes, DatasetManagement}
 use Rattle.nv_entry.specs.declared.status_code.StatusCode.TheVariants.{InternalError, Success}
 use Rattle.nv_judge.specs.declared.need.Need.{Need}
-use Rattle.nv_judge.specs.Need.{field_verdict, need_of}
+use Rattle.nv_judge.specs.Need.{HasFieldsInOrder, field_verdict, need_of}
 use Rattle.nv_mem.specs.declared.piece.Piece.{Piece}
 use Rattle.nv_ns.specs.BlockRange.{in_namespace}
 use Rattle.nv_model.specs.Dialogue.{End, in_memory}
@@ -22,7 +22,7 @@ use Rattle.nv_model.specs.Carrying.{cleared, units_from}
 use Rattle.nv_model.specs.Memory.{byte_in}
 use Rattle.nv_disk.specs.Flat.{Flat, moved_of}
 use Rattle.nv_flat.specs.Listed.{refusal_of_reading, list_reading}
-use Rattle.nv_flat.specs.One.{HasFieldsInOrder, IsRun, shape_of}
+use Rattle.nv_flat.specs.One.{IsRun, shape_of}
 use Rattle.nv_flat.specs.Transfer.{is_transfer}
 use Rattle.nv_flat.proofs.OneLemmas.{moved-run, refused-run}
 use Rattle.nv_judge.proofs.FieldLemmas.{field_verdict-err, field_verdict-ok, count-at_most, in-namespace}

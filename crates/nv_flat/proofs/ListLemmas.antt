@@ -1,5 +1,5 @@
 -- What the reading of a list in memory comes to
-use Rattle.std.proofs.Common.{◌≡◌, ℕ, zero, suc, ◌-◌, ◌+◌, ◌≤◌, Bool, List, length, Some, arith, refl, sym, ap, subst, ◌∙◌}
+use Rattle.std.proofs.Common.{◌≡◌, ℕ, ◌-◌, ◌+◌, ◌≤◌, Bool, List, length, Some, arith, refl, sym, ap, subst, ◌∙◌}
 use Rattle.nv_entry.specs.Status.{StatusField}
 use Rattle.nv_entry.specs.StatusCode.{done_with, refused_with}
 use Rattle.nv_entry.specs.Submission.{prp1_of, prp2_of, psdt_of, sgl_of}
@@ -16,6 +16,7 @@ use Rattle.nv_model.specs.Memory.{byte_in, bytes_from}
 use Rattle.nv_model.specs.Reading.{Reading, Faulty, TooLong, Spells}
 use Rattle.nv_model.specs.Prp.{read_prp}
 use Rattle.nv_model.specs.Sgl.{read_sgl}
+use Rattle.nv_model.proofs.Shown.{length-bytes_from}
 use Rattle.nv_model.proofs.Spelled.{read_prp-sized}
 use Rattle.nv_model.specs.Transcript.{fed}
 use Rattle.nv_model.specs.Want.{want_of}
@@ -47,12 +48,6 @@ pub reading-done : (m : ℕ → ℕ) (d : Dialogue Reading) (pieces : List Piece
     → in_memory m d ≡ Spells pieces
 unfolding in_memory
 reading-done m d pieces is = ap (in_memory m) is
-
--- as many bytes as are asked for
-length-bytes_from : (m : ℕ → ℕ) (addr len : ℕ) → length (bytes_from m addr len) ≡ len
-unfolding bytes_from
-length-bytes_from m addr zero = refl
-length-bytes_from m addr (suc len) = ap suc (length-bytes_from m (suc addr) len)
 
 -- a reserved data pointer is refused
 pub reserved-refused : (f : Flat) (entry : List ℕ) (need : Need) → data_pointer (psdt_of entry) ≡ Reserved

@@ -18,8 +18,6 @@ use Rattle.nv_model.specs.Judge.{count_of, field_refusal}
 use Rattle.nv_model.specs.Limits.{block, most_descriptors, page}
 use Rattle.nv_model.specs.Private.{After, PostStep, Private, Shape, Taken, Unjudged, no_commands, put, step}
 use Rattle.nv_model.specs.Carrying.{IsCarriedOut}
-use Rattle.nv_judge.specs.declared.need.Need.{Need}
-use Rattle.nv_judge.specs.Need.{need_of}
 use Rattle.nv_flat.specs.Flat.{identity_map}
 use Rattle.nv_disk.specs.Flat.{Flat, byte_of_block}
 
@@ -115,9 +113,3 @@ IsOutcome true true old entry st new = IsRun old entry st new
 -- the outcome of a command on a controller that carries these out
 abbrev pub IsDone : (built : List ℕ → Bool) → Flat → List ℕ → StatusField → Flat → Type 0
 IsDone built old entry st new = IsOutcome (built entry) (not (is_none (field_refusal (length old.disk) entry))) old entry st new
-
--- a command whose fields are in order in a namespace of `blocks` blocks: its opcode, and what it needs
-pub record HasFieldsInOrder (blocks : ℕ) (entry : List ℕ) (opcode : IoOpcode) (need : Need) : Type 0 where
-  pub unrefused : field_refusal blocks entry ≡ None
-  pub known : io_opcode (opcode_of entry) ≡ Some opcode
-  pub needs : need ≡ need_of entry opcode

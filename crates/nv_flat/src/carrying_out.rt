@@ -8,8 +8,9 @@ ghost use Rattle.nv_entry.specs.Status.{StatusField};
 ghost use Rattle.nv_model.specs.Judge.{KeepAll, Work};
 ghost use Rattle.nv_model.specs.Carried.{moved_on};
 ghost use Rattle.nv_model.specs.Carrying.{cleared};
+ghost use Rattle.nv_judge.specs.Need.{HasFieldsInOrder};
 ghost use Rattle.nv_disk.specs.Flat.{moved_of};
-ghost use Rattle.nv_flat.specs.One.{HasFieldsInOrder, IsRun};
+ghost use Rattle.nv_flat.specs.One.{IsRun};
 ghost use Rattle.nv_flat.specs.Transfer.{is_transfer};
 
 use crate::controller::FlatController;

@@ -6,11 +6,11 @@ ghost use Rattle.nv_entry.specs.declared.opcode.IoOpcode.TheVariants as opcode;
 ghost use Rattle.nv_model.specs.Judge.{Work, range_count_of, range_fits, range_units, ranges_in};
 ghost use Rattle.nv_model.specs.Carried.{units_moved};
 ghost use Rattle.nv_model.specs.Limits.{range_size};
-ghost use Rattle.nv_judge.specs.Need.{need_of};
+ghost use Rattle.nv_judge.specs.Need.{HasFieldsInOrder, need_of};
 ghost use Rattle.nv_model.specs.Reading.{Spells};
 ghost use Rattle.nv_disk.specs.Flat.{moved_of};
 ghost use Rattle.nv_flat.specs.Listed.{list_reading};
-ghost use Rattle.nv_flat.specs.One.{HasFieldsInOrder, IsRun};
+ghost use Rattle.nv_flat.specs.One.{IsRun};
 
 use crate::controller::FlatController;
 use crate::lists::Listed;

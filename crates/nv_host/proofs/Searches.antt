@@ -1,5 +1,8 @@
 -- Passes over the tags of a group, one after another.
-use Rattle.std.proofs.Common.{◌≡◌, refl, sym, subst, ap, ◌∙◌, ℕ, ◌+◌, ◌-◌, ◌<◌, ◌≤◌, ◌||◌, Bool, false, inl, inr, List, [], ◌∷◌, Option, None, Some, MatchOption, arith}
+use Rattle.std.proofs.Common.{◌≡◌, refl, sym, subst, ap, ◌∙◌, ℕ, ◌+◌, ◌-◌, ◌<◌, ◌≤◌, ◌||◌, ◌&&◌, ◌==◌, not, Bool, false, true, inl, inr, List, [], ◌∷◌, length, Option, None, Some, MatchOption, eqb-true, arith}
+use Rattle.std.specs.List.{filter}
+use Rattle.std.proofs.lemmas.List.Filters.{length-filter_both}
+use Rattle.std.proofs.lemmas.Map.Views.{any-filter_same}
 use Rattle.std.proofs.lemmas.Bool.{cases_eq, ne_eqb}
 use Rattle.nv_host.proofs.Rounds.{IsRound, behind, far, pass-far, round-stop}
 use Rattle.nv_host.proofs.Works.{ended-after, ended-enough, leads_more, leads_none, leads_zero}
@@ -72,3 +75,30 @@ module _ (sc : Scope) (most done : ℕ) (left : List ℕ) (P : Scene → ℕ →
   search-end none nothing w e so =
       pass-far sc nothing most done w a b e so_far.leads so_far.few
       (λ zero. so (λ k. so_far.rests zero k (ap (λ (xs : List ℕ). is_among xs k) none)))
+
+-- tags that are passed by, since nothing is found in them either
+pub search-drop : (sc : Scope) (most done : ℕ) (left others rest : List ℕ) (P : Scene → ℕ → Type 0) (a b : Scene) → IsSearch sc most done left P a b
+    → rest ≡ filter (λ t. not (is_among others t)) left → ((k : ℕ) → is_among others k ≡ true → P b k) → IsSearch sc most done rest P a b
+search-drop sc most done left others rest P a b so_far are none =
+    record { leads = so_far.leads; few = so_far.few; rests = λ zero k out. by zero k out (is_among others k) refl }
+  where
+    among : (k : ℕ) → is_among rest k ≡ (not (is_among others k) && is_among left k)
+    among k =
+        ap (λ (xs : List ℕ). is_among xs k) are
+        ∙ any-filter_same (λ x. x == k) (λ t. not (is_among others t)) (not (is_among others k))
+        (λ x same. ap (λ (n : ℕ). not (is_among others n)) (eqb-true x k same)) left
+
+    by : done ≡ 0 → (k : ℕ) → is_among rest k ≡ false → (x : Bool) → is_among others k ≡ x → P a k
+    by zero k out true is = subst (λ (x : Scene). P x k) (leads_zero sc a b done so_far.leads zero) (none k is)
+    by zero k out false is =
+        so_far.rests zero k (sym (among k ∙ ap (λ (x : Bool). not x && is_among left k) is) ∙ out)
+
+pub fewer : (others left rest : List ℕ) → rest ≡ filter (λ t. not (is_among others t)) left → length rest ≤ length left
+fewer others left rest are =
+    let all = length-filter_both (λ t. not (is_among others t)) (is_among others) (λ t. twice (is_among others t)) left in
+    let same : length rest ≡ length (filter (λ t. not (is_among others t)) left) = ap (λ (xs : List ℕ). length xs) are in
+    omega (arith, all, same)
+  where
+    twice : (x : Bool) → x ≡ not (not x)
+    twice true = refl
+    twice false = refl

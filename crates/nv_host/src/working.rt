@@ -1,6 +1,7 @@
 //! What is due, carried out.
 
-ghost use Rattle.std.specs.Prelude.{◌≡◌, ◌<◌, ◌≤◌, ℕ, IfOk, IsTrue, OnErr, Some, false, length, slice_get, true};
+ghost use Rattle.std.specs.Prelude.{◌≡◌, ◌<◌, ◌≤◌, ◌==◌, ℕ, IfOk, IsTrue, List, OnErr, Some, false, length, slice_get, true};
+ghost use Rattle.std.specs.List.{list_any};
 ghost use Rattle.nv_host.specs.Passes.{IsPass, NonePosts, QueuesRest};
 ghost use Rattle.nv_host.specs.Work.{IsStray, IsWorked, Leads, NotDue, Rests, scene};
 ghost use Rattle.nv_world_model.specs.Area.{tag_count};
@@ -11,6 +12,7 @@ use crate::worked::{Scope, Why, Worked};
 use nv_core::Stray;
 use nv_mem::MemoryCell;
 use nv_model::Reply;
+use nv_tags::Group;
 use nv_world_model::Event;
 use std::alloc::Global;
 
@@ -28,7 +30,8 @@ impl HostMediator {
     /// allows, since a plan that is cut off begins again with what was read.
     ///
     /// A round costs what its events cost, and a look at each lane. Tags are looked at where their commands wait or have ended, and guests where a note says that
-    /// something may be due of their queues; the note is made when the guest's controller changes.
+    /// something may be due of their queues; the note is made when the guest's controller changes. Of the commands that wait for room in one completion queue
+    /// one is looked at, for each submission queue whose commands are completed there.
     ///
     /// A guest's next command is taken for a lane only where the guest has so few tags there that the command may need whatever it can
     /// ([`HostMediator::set_share`]). So a call leaves each guest within its share of a lane where it was; and since all shares together are no more than a
@@ -261,7 +264,7 @@ impl HostMediator {
         }
     }
 
-    // Completes the commands of a lane that have ended.
+    // Completes the commands of a lane that have ended. Where one waits for room in its guest's completion queue, those of the same queue are passed by.
     fn post_each<C: MemoryCell>(&mut self, lane: u8, most: u64, memory: &mut [C]) -> Worked
         requires some { 0 < most }
         requires lent { length (C.bytes memory.old) ≡ self.old.setup.host_bytes }
@@ -278,8 +281,18 @@ impl HostMediator {
             }
             let more = self.post_one(lane, tag, memory);
             done += more;
+            if more == 0 {
+                ended.drop_all(self.held_with(lane, tag));
+            }
         }
         Worked::so_far(done)
+    }
+
+    // The tags of a lane that are of the same queue as this one, where its guest's completion queue has no room: none of their commands may be completed.
+    fn held_with(&self, lane: u8, tag: u8) -> Group
+        ensures { (memory : List ℕ) (other : ℕ) → list_any (λ t. t == other) result ≡ true → NotDue (scene self.now memory) (Event.Post lane other) }
+    {
+        self.front.held_with(lane, tag)
     }
 
     // Completes the command that goes by a tag where it has ended; how many events that were, one or none.

@@ -1,7 +1,7 @@
 -- What a command that its fields do not refuse needs, and the verdict of the fields: Base Specification 2.0, "Submission Queue Entry"
 -- (FUSE, OPC, NSID, PSDT), and NVM Command Set Specification 1.0, "Read command", "Write command", "Compare command", "Write Zeroes
 -- command" (SLBA, NLB, FUA) and "Dataset Management command" (NR). The order of the checks and DNR are the project's own (profile).
-use Rattle.std.specs.Prelude.{ℕ, ◌&&◌, ◌==◌, if◌then◌else◌, List, Option, Some, None, Result, Ok, Err}
+use Rattle.std.specs.Prelude.{◌≡◌, ℕ, ◌&&◌, ◌==◌, if◌then◌else◌, List, Option, Some, None, Result, Ok, Err}
 use Rattle.nv_entry.specs.Opcode.{io_opcode}
 use Rattle.nv_entry.specs.Submission.{opcode_of, fua_of}
 use Rattle.nv_entry.specs.Status.{StatusField}
@@ -31,3 +31,9 @@ verdict_by None (Some opcode) entry = Ok (need_of entry opcode)
 -- the verdict of the fields of a command of 64 bytes, in a namespace of `blocks` blocks
 abbrev pub field_verdict : (blocks : ℕ) → List ℕ → Result Need StatusField
 field_verdict blocks entry = verdict_by (field_refusal blocks entry) (io_opcode (opcode_of entry)) entry
+
+-- a command whose fields are in order in a namespace of `blocks` blocks: its opcode, and what it needs
+pub record HasFieldsInOrder (blocks : ℕ) (entry : List ℕ) (opcode : IoOpcode) (need : Need) : Type 0 where
+  pub unrefused : field_refusal blocks entry ≡ None
+  pub known : io_opcode (opcode_of entry) ≡ Some opcode
+  pub needs : need ≡ need_of entry opcode

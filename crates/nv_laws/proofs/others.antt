@@ -1,5 +1,4 @@
 pub mod Shown
-pub mod OneTag
 pub mod Leaving
 pub mod Parts
 pub mod Events

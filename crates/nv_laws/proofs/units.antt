@@ -3,7 +3,6 @@ pub mod Blocks
 pub mod Lies
 pub mod Has
 pub mod Once
-pub mod OwnCuts
 pub mod Flags
 pub mod OwnShares
 pub mod OwnDisk

@@ -1,6 +1,7 @@
 -- Each event leaves each guest's controller counting that guest's commands.
-use Rattle.std.proofs.Common.{◌≡◌, ℕ, ◌/◌, ◌%◌, ◌<◌, ◌⊎◌, inl, inr, Bool, true, false, cond, ◌==◌, List, [], ◌∷◌, length}
+use Rattle.std.proofs.Common.{◌≡◌, ℕ, ◌/◌, ◌%◌, ◌<◌, ◌⊎◌, inl, inr, Bool, true, false, cond, List, [], ◌∷◌, length}
 use Rattle.std.proofs.Common.{set, slice_get, Option, Some, None, IfSome, arith, refl, sym, ap, ◌∙◌, subst}
+use Rattle.std.specs.Bool.{⊤}
 use Rattle.std.specs.List.{All}
 use Rattle.std.proofs.lemmas.Bool.{cases_eq, ne_eqb}
 use Rattle.std.proofs.lemmas.List.{length-take-le}
@@ -15,20 +16,20 @@ use Rattle.nv_model.specs.Judge.{Work, is_read}
 use Rattle.nv_model.specs.Transcript.{Outcome, ReadDone, Settled, Wanted}
 use Rattle.nv_model.proofs.TogetherKept.{IsPosted, post-together, ran_out-together}
 use Rattle.nv_world_model.specs.Area.{bounce_page, tag_count}
-use Rattle.nv_world_model.specs.Device.{DeviceLane, Held, held_status, rung}
+use Rattle.nv_world_model.specs.Device.{DeviceLane, Held, held_status}
 use Rattle.nv_world_model.specs.Geometry.{Geometry}
 use Rattle.nv_world_model.specs.Plan.{Answer, Bounced, Direct, NoData, Plan}
 use Rattle.nv_world_model.specs.Share.{Share, shares_of, tags_of_entry}
 use Rattle.nv_world_model.proofs.Seats.{slice_get-set, slice_get-set-other}
-use Rattle.nv_world_model.specs.ShareArea.{is_no_command, share_written}
+use Rattle.nv_world_model.specs.ShareArea.{is_no_command}
 use Rattle.nv_world_model.specs.Seat.{Owner, put_back}
 use Rattle.nv_world_model.specs.Step.{carried_out, carry_out, completion_read, deciding, delivered, delivered_all}
 use Rattle.nv_world_model.specs.Step.{delivered_by, delivered_from, device_moved, device_post, device_posted, device_took}
 use Rattle.nv_world_model.specs.Step.{ended_at_once, entry_at, handed_on, is_success, kept_block, listed, post_all, post_by, posted_to}
 use Rattle.nv_world_model.specs.Step.{ran_out_of, reaped, scattered_to, submit_by, submitted, submitted_on, take_front}
 use Rattle.nv_world_model.specs.Step.{take_tags, taken_to}
-use Rattle.nv_world_model.specs.World.{Command, Ended, Flying, Free, Lane, Queued, Tag, Taken, World, changed_at, claimed, group, is_free, tag_in, tag_of}
-use Rattle.nv_world_model.specs.World.{with_device, with_host, with_lane, with_tag}
+use Rattle.nv_world_model.specs.World.{Command, Ended, Flying, Free, Lane, Tag, Taken, World, changed_at, claimed, group, is_free, tag_in, tag_of}
+use Rattle.nv_world_model.specs.World.{with_lane, with_tag}
 use Rattle.nv_world_model.proofs.Seats.{IsOwner}
 use Rattle.nv_laws_sound.specs.Consistent.{IsConsistent}
 use Rattle.nv_laws_sound.specs.Counted.{IsCounted, command_in, commands}
@@ -38,6 +39,7 @@ use Rattle.nv_laws_sound.proofs.Commands.{counted-same}
 use Rattle.nv_laws_sound.proofs.CountedActs.{HasLane, end-counted, lane-of, retag-counted, stand-counted, still-counted}
 use Rattle.nv_laws_sound.proofs.CountedTags.{freed-counted, taken_to-counted}
 use Rattle.nv_laws_sound.proofs.Folds.{HasTag, group-distinct, have-other, tag_of-other, with_tags-fold}
+use Rattle.nv_laws_sound.proofs.HandedOn.{handed-fold}
 use Rattle.nv_laws_sound.proofs.Lists.{slice_get-below}
 use Rattle.nv_laws_sound.proofs.Numbers.{AreDistinct, numbers-distinct, numbers_where, take-distinct}
 use Rattle.nv_laws_sound.proofs.Slots.{device-there}
@@ -127,7 +129,7 @@ module _ (geometry : Geometry) where
   submitted-counted w mediator lane tag command t share o d there taken is =
       taken-counted _ lane tag t _ command there taken (λ number. refl) (still-counted geometry w _ refl refl is)
 
-  -- a share is carried out in its tag, and leaves the other tags
+  -- a share is carried out in its tag
   share-counted : (w : World) (mediator lane tag : ℕ) (command : Command) (t : Tag) (share : Share) (o : Owner) → tag_of w lane tag ≡ Some t
       → IsTakenBy command t → IsCounted geometry w → IsCounted geometry (carried_out mediator lane tag command share o w)
   share-counted w mediator lane tag command t share o there taken is = by (is_no_command share)
@@ -141,39 +143,12 @@ module _ (geometry : Geometry) where
       by true = taken-counted w lane tag t (Ended command (done_with Success) (Some share)) command there taken (λ number. refl) is
       by false = on (slice_get w.device lane)
 
-  submitted-other : (w : World) (mediator lane tag other : ℕ) (command : Command) (share : Share) (o : Owner) (d : DeviceLane) → (other == tag) ≡ false
-      → tag_of (submitted mediator lane tag command share o d w) lane other ≡ tag_of w lane other
-  unfolding submitted
-  submitted-other w mediator lane tag other command share o d apart =
-      let written = share_written share o.given command.entry mediator lane tag d.tail w.host in
-      tag_of-other (with_device lane rung (with_host written w)) lane tag other (Flying command share (Queued d.tail)) apart
-
-  share-other : (w : World) (mediator lane tag other : ℕ) (command : Command) (share : Share) (o : Owner) → (other == tag) ≡ false
-      → tag_of (carried_out mediator lane tag command share o w) lane other ≡ tag_of w lane other
-  share-other w mediator lane tag other command share o apart = by (is_no_command share)
-    where
-      on : (d : Option DeviceLane) → tag_of (submitted_on d mediator lane tag command share o w) lane other ≡ tag_of w lane other
-      on None = refl
-      on (Some d) = submitted-other w mediator lane tag other command share o d apart
-
-      by : (b : Bool) → tag_of (cond b (with_tag lane tag (Ended command (done_with Success) (Some share)) w)
-          (submitted_on (slice_get w.device lane) mediator lane tag command share o w)) lane other ≡ tag_of w lane other
-      by true = tag_of-other w lane tag other (Ended command (done_with Success) (Some share)) apart
-      by false = on (slice_get w.device lane)
-
   handed-counted : (mediator lane : ℕ) (tags : List ℕ) (shares : List Share) (command : Command) (o : Owner) (w : World)
       → All (HasTag (IsTakenBy command) w lane) tags → AreDistinct tags → IsCounted geometry w
       → IsCounted geometry (handed_on mediator lane tags shares command o w)
-  unfolding handed_on
-  handed-counted mediator lane [] shares command o w have apart is = is
-  handed-counted mediator lane (tag ∷ tags) [] command o w have apart is = is
-  handed-counted mediator lane (tag ∷ tags) (share ∷ shares) command o w have apart is =
-      let h = All-head (HasTag (IsTakenBy command) w lane) tag tags have in
-      let z : World = carried_out mediator lane tag command share o w in
-      handed-counted mediator lane tags shares command o z
-      (have-other (IsTakenBy command) w z lane tag tags (λ other differ. share-other w mediator lane tag other command share o differ) apart.0
-      (All-tail (HasTag (IsTakenBy command) w lane) tag tags have)) apart.1
-      (share-counted w mediator lane tag command h.t share o h.is h.has is)
+  handed-counted mediator lane tags shares command o w have apart is =
+      handed-fold (IsCounted geometry) (λ share. ⊤) mediator lane command o
+      (λ z tag t share there taken _ counted. share-counted z mediator lane tag command t share o there taken counted) tags shares w have apart (λ _ _ _. tt) is
 
   carried-counted : (plan : Plan) (w : World) (mediator lane : ℕ) (tags : List ℕ) (command : Command) (o : Owner)
       → All (HasTag (IsTakenBy command) w lane) tags → AreDistinct tags → IsCounted geometry w

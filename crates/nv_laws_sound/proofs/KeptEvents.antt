@@ -1,17 +1,13 @@
 -- Each event of a guest or of the mediator keeps what is kept of the mediator's side.
-use Rattle.std.proofs.Common.{◌≡◌, ℕ, zero, suc, ◌≤◌, true, false, cond, List, [], ◌∷◌, length, map, nat_le, set, slice_get, Option, Some, None}
+use Rattle.std.proofs.Common.{◌≡◌, ℕ, zero, suc, ◌≤◌, false, List, length, nat_le, slice_get, Option, Some, None}
 use Rattle.std.proofs.Common.{take, ◌&&◌, arith, refl, sym, ap, ◌∙◌, subst}
-use Rattle.std.specs.List.{All}
-use Rattle.std.proofs.lemmas.List.{length-map}
-use Rattle.std.proofs.lemmas.List.Elements.{All-cons, All-head, All-nil, All-tail}
 use Rattle.nv_entry.specs.Status.{StatusField}
 use Rattle.nv_entry.specs.StatusCode.{done_with}
 use Rattle.nv_entry.specs.Submission.{cid_of}
 use Rattle.nv_entry.specs.declared.status_code.StatusCode.TheVariants.{InternalError}
 use Rattle.nv_mem.specs.GuestMap.{all_mapped, mapped}
-use Rattle.nv_mem.specs.declared.region.Region.{Region}
 use Rattle.nv_model.specs.Controller.{Posted, front, is_enabled, post, ran_out}
-use Rattle.nv_model.specs.Judge.{Clear, Form, Keep, Manage, Transfer, Work, form_of}
+use Rattle.nv_model.specs.Judge.{Keep, form_of}
 use Rattle.nv_model.specs.Laws.{IsCompletionInPlace, IsSubmissionInPlace, QueuesInPlace}
 use Rattle.nv_model.specs.Limits.{part_size}
 use Rattle.nv_model.specs.Memory.{image, stored}
@@ -20,35 +16,32 @@ use Rattle.nv_model.specs.Private.{acted}
 use Rattle.nv_model.specs.Transcript.{Outcome, ReadDone, Settled, Wanted}
 use Rattle.nv_model.proofs.QueueOrder.{IsKept-in_place}
 use Rattle.nv_model.proofs.QueuesKept.{HaveBehind, post-kept, ran_out-kept}
-use Rattle.nv_prp.specs.Fits.{places_fit}
-use Rattle.nv_world_model.proofs.Seats.{IsOwner, owner_of-is, owner_of-number, slice_get-set}
+use Rattle.nv_world_model.proofs.Seats.{IsOwner, owner_of-is, owner_of-number}
 use Rattle.nv_world_model.proofs.TagCounts.{tags_of_entry-some}
 use Rattle.nv_world_model.specs.Device.{DeviceLane}
 use Rattle.nv_world_model.specs.Geometry.{Geometry, Guest, regions_of, shape_of}
-use Rattle.nv_world_model.specs.Plan.{Answer, Bounced, Direct, NoData, Plan, go_plan, plan_over}
+use Rattle.nv_world_model.specs.Plan.{Answer, Bounced, Direct, NoData, Plan, plan_over}
 use Rattle.nv_world_model.specs.Seat.{Owner, owner_of, put_back, seat}
 use Rattle.nv_world_model.specs.Share.{Share, shares_of, tags_of_entry}
-use Rattle.nv_world_model.specs.Step.{acted_by, acted_in, administered_in, carried_out, carry_out, deciding, delivered, ended_at_once, entry_at, handed_on, is_io_queue, posted_to, ran_out_of}
+use Rattle.nv_world_model.specs.Step.{acted_by, acted_in, administered_in, carry_out, deciding, delivered, ended_at_once, entry_at, handed_on, is_io_queue, posted_to, ran_out_of}
 use Rattle.nv_world_model.specs.Step.{is_success, list_at, listed, post_all, post_by, reap, reaped, statuses_of, step, submit_by, take_from, take_front, take_tags, taken_to}
-use Rattle.nv_world_model.specs.World.{Command, Ended, Free, Lane, Tag, Taken, World, claimed, group, is_free, tag_changed, tag_in, tag_of, with_controller, with_tags}
+use Rattle.nv_world_model.specs.World.{Command, Ended, Free, Lane, Tag, Taken, World, claimed, group, is_free, tag_in, tag_of, with_controller, with_tags}
 use Rattle.nv_world_model.specs.declared.event.Event.{Event}
 use Rattle.nv_world_model.specs.declared.event.Event.TheVariants as event
 use Rattle.nv_laws_sound.specs.Consistent.{IsPlanned}
-use Rattle.nv_laws_sound.specs.Groups.{AllHanded, Handed, Part, command_of, part_of, parts_of}
+use Rattle.nv_laws_sound.specs.Groups.{command_of, part_of}
 use Rattle.nv_laws_sound.specs.Kept.{IsGuests, IsKeptWorld}
 use Rattle.nv_laws_sound.specs.LaidOut.{IsLaidOut}
 use Rattle.nv_laws_sound.specs.Mediators.{IsMediators}
-use Rattle.nv_laws_sound.proofs.Folds.{HasTag, group-distinct, group-numbers, have-other, parts-set}
+use Rattle.nv_laws_sound.proofs.Folds.{group-distinct}
 use Rattle.nv_laws_sound.proofs.GroupEvents.{acts-groups, admins-groups, lists-groups}
-use Rattle.nv_laws_sound.proofs.GroupsKept.{HasGroups, ended-groups, freed-groups, groups-set, put-groups}
+use Rattle.nv_laws_sound.proofs.GroupsKept.{HasGroups, ended-groups, freed-groups}
+use Rattle.nv_laws_sound.proofs.HandedOn.{handed-fold, handed-groups, no-answer}
 use Rattle.nv_laws_sound.proofs.KeptSteps.{IsHosted, IsSided, Keeps, act-sided, admin-sided, apart, carried_out-sided, delivered-hosted, ended_at_once-sided}
 use Rattle.nv_laws_sound.proofs.KeptSteps.{listed-sided, posted_to-sided, ran_out-sided, reaped-keeps, tag-kept, taken_to-sided, together}
-use Rattle.nv_laws_sound.proofs.Lists.{set-same, set-set, some-same}
-use Rattle.nv_laws_sound.proofs.Numbers.{AreDistinct, numbers_where, puts}
-use Rattle.nv_laws_sound.proofs.Planned.{Answers, IsAnswerOr, IsWhole, Plans, plan_over-is, shares-count, shares-planned}
-use Rattle.nv_laws_sound.proofs.Stages.{group-count, leader-at, reading, taken-tags}
-use Rattle.nv_laws_sound.proofs.Submits.{IsHanded, carried-is, carried-other}
-use Rattle.nv_laws_sound.proofs.TagEvents.{IsTakenBy}
+use Rattle.nv_laws_sound.proofs.Numbers.{numbers_where}
+use Rattle.nv_laws_sound.proofs.Planned.{Answers, IsAnswerOr, IsWhole, Plans, plan_over-is, shares-planned}
+use Rattle.nv_laws_sound.proofs.Stages.{leader-at, taken-tags}
 use Rattle.nv_laws_sound.proofs.Takes.{claimed-is, taken_to-groups}
 use Rattle.nv_laws_sound.proofs.Walks.{device-walk, either, ended-walk, guest-walk, lane-walk, owner-walk, taken-walk}
 
@@ -56,19 +49,6 @@ use Rattle.nv_laws_sound.proofs.Walks.{device-walk, either, ended-walk, guest-wa
 tag-lane : (o : Option Lane) (tag : ℕ) (t : Tag) → tag_in o tag ≡ Some t → (l : Lane) × ((o ≡ Some l) × (slice_get l.tags tag ≡ Some t))
 tag-lane None tag t e = cc
 tag-lane (Some l) tag t e = (l, (refl, e))
-
--- an answer is no plan of a command that goes
-no-answer : (st : StatusField) (form : Form) (regions : List Region) (work : Work) → Answer st ≡ go_plan form regions work → ⊥
-no-answer st (Transfer dest) regions work e =
-    (elim (places_fit regions work.pieces) as (λ b. Answer st ≡ cond b (Direct work) (Bounced work) → ⊥) [ true ↦ λ bad. cc | false ↦ λ bad. cc ]) e
-no-answer st Clear regions work e = cc
-no-answer st Manage regions work e = cc
-no-answer st Keep regions work e = cc
-
-all-handed : (command : Command) (shares : List Share) → All (λ v. command_of v ≡ Some command) (map (Handed command) shares)
-all-handed command [] = All-nil (λ v. command_of v ≡ Some command)
-all-handed command (share ∷ shares) =
-    All-cons (λ v. command_of v ≡ Some command) (Handed command share) (map (Handed command) shares) refl (all-handed command shares)
 
 module _ (host_bytes : ℕ) (geometry : Geometry) where
   -- ---- Take
@@ -104,40 +84,6 @@ module _ (host_bytes : ℕ) (geometry : Geometry) where
       → IsPlanned guest command.entry share → IsGuests geometry command (Some share)
   guests-share command guest share of given planned = record { guest = guest; is = record { given = given; bytes = of.is.bytes }; planned = planned }
 
-  handed_on-sided : (lane : ℕ) (tags : List ℕ) (shares : List Share) (command : Command) (o : Owner) (w : World) (l : Lane) (d : DeviceLane)
-      → IsGuests geometry command None → IsSided geometry w → slice_get w.lanes lane ≡ Some l → slice_get w.device lane ≡ Some d
-      → slice_get geometry.guests command.guest ≡ Some o.given → All (IsPlanned o.given command.entry) shares
-      → All (HasTag (IsTakenBy command) w lane) tags → AreDistinct tags
-      → IsSided geometry (handed_on geometry.mediator lane tags shares command o w)
-      × IsHanded w (handed_on geometry.mediator lane tags shares command o w) lane l tags command shares
-  unfolding handed_on
-  handed_on-sided lane [] shares command o w l d of is at there given planned have apart =
-      (is, record { tags = l.tags; lanes = sym (set-same w.lanes lane l at); parts = refl })
-  handed_on-sided lane (tag ∷ tags) [] command o w l d of is at there given planned have apart =
-      (is, record { tags = l.tags; lanes = sym (set-same w.lanes lane l at); parts = refl })
-  handed_on-sided lane (tag ∷ tags) (share ∷ shares) command o w l d of is at there given planned have apart =
-      let z : World = carried_out geometry.mediator lane tag command share o w in
-      let c = carried-is w geometry.mediator lane tag command share o l d at there in
-      let one : Lane = tag_changed tag c.now l in
-      let now = carried_out-sided geometry geometry.mediator lane tag command share o w
-      (guests-share command o.given share of given (All-head (IsPlanned o.given command.entry) share shares planned)) is in
-      let here : slice_get z.lanes lane ≡ Some one = ap (λ ls. slice_get ls lane) c.lanes ∙ slice_get-set w.lanes lane l one at in
-      let rest = handed_on-sided lane tags shares command o z one c.d of now here c.device given
-      (All-tail (IsPlanned o.given command.entry) share shares planned)
-      (have-other (IsTakenBy command) w z lane tag tags (λ other differ. carried-other w z lane tag other l command share at c differ) apart.0
-      (All-tail (HasTag (IsTakenBy command) w lane) tag tags have)) apart.1 in
-      let h = rest.1 in (
-        rest.0,
-        record {
-          tags = h.tags;
-          lanes =
-              h.lanes ∙ ap (λ ls. set ls lane (record l { tags = h.tags })) c.lanes ∙ set-set w.lanes lane one (record l { tags = h.tags });
-          parts =
-              h.parts ∙ ap (puts tags (map (Handed command) shares)) (parts-set l.tags tag c.now)
-              ∙ ap (λ p. puts tags (map (Handed command) shares) (set (parts_of l.tags) tag p)) c.part;
-        },
-      )
-
   module _ (w : World) (lane leader : ℕ) (l : Lane) (command : Command) (reads : List ReadDone) (keeps : Keeps geometry w)
       (at : slice_get w.lanes lane ≡ Some l) (found : tag_of w lane leader ≡ Some (Taken command reads)) (leads : command.leader ≡ leader) where
     of : IsGuests geometry command None
@@ -153,29 +99,15 @@ module _ (host_bytes : ℕ) (geometry : Geometry) where
     module _ (d : DeviceLane) (o : Owner) (there : slice_get w.device lane ≡ Some d) (given : slice_get geometry.guests command.guest ≡ Some o.given) where
       shares-keep : (plan : Plan) → IsWhole o.given command.entry plan
           → Keeps geometry (handed_on geometry.mediator lane (group w lane leader) (shares_of o.given.namespace command.entry plan) command o w)
-      shares-keep plan whole =
-          let is = keeps.1 lane l at in
-          let shares : List Share = shares_of o.given.namespace command.entry plan in
-          let ns = group w lane leader in
-          let both = handed_on-sided lane ns shares command o w l d of keeps.0 at there given (shares-planned o.given command.entry plan whole)
-          (taken-tags geometry w lane leader l command reads at is found leads) (group-distinct w lane leader) in
-          let h = both.1 in
-          let spelled = group-numbers w lane leader l at in
-          let group_is = reading geometry w lane leader l command reads at is found leads in
-          let same : o.given ≡ group_is.guest = some-same o.given group_is.guest (sym given ∙ group_is.given) in
-          let vs : List Part = map (Handed command) shares in
-          let count : length vs ≡ length ns =
-          length-map shares (Handed command) ∙ shares-count o.given command.entry plan whole
-          ∙ ap (λ (g : Guest). tags_of_entry g.namespace command.entry) same
-          ∙ sym (group-count geometry w lane leader l command reads at is found leads) in
-          let grouped = put-groups geometry w lane leader l command (Taken command reads) keeps.1 at
-          (leader-at geometry w lane leader l command reads at is found leads) refl leads vs h.tags
-          (h.parts ∙ ap (λ ks. puts ks vs (parts_of l.tags)) spelled) (count ∙ ap length spelled) (all-handed command shares)
-          (λ guest whose. AllHanded plan (ap (λ (g : Guest). map (Handed command) (shares_of g.namespace command.entry plan))
-          (some-same o.given guest (sym given ∙ whose)))) in (
-            both.0,
-            subst (HasGroups geometry) (sym h.lanes) (groups-set geometry w.lanes lane (record l { tags = h.tags }) keeps.1 grouped),
-          )
+      shares-keep plan whole = (
+        handed-fold (IsSided geometry) (IsPlanned o.given command.entry) geometry.mediator lane command o
+            (λ z tag t share has taken planned sided.
+            carried_out-sided geometry geometry.mediator lane tag command share o z (guests-share command o.given share of given planned) sided)
+            (group w lane leader) (shares_of o.given.namespace command.entry plan) w
+            (taken-tags geometry w lane leader l command reads at (keeps.1 lane l at) found leads) (group-distinct w lane leader)
+            (shares-planned o.given command.entry plan whole) keeps.0,
+        handed-groups geometry w lane leader l d command reads o plan keeps.1 at there found leads given whole,
+      )
 
       carried-keeps : (plan : Plan) → IsAnswerOr o.given command.entry plan
           → Keeps geometry (carry_out plan geometry.mediator lane (group w lane leader) command o w)

@@ -5,7 +5,6 @@ pub mod ExtentsApart
 pub mod LaidOuts
 pub mod Namespaces
 pub mod OwnRows
-pub mod CutMapped
 pub mod OwnWork
 pub mod PlanSizes
 pub mod EntryFields
@@ -31,6 +30,7 @@ pub mod Planned
 pub mod Stages
 pub mod GroupsKept
 pub mod Takes
+pub mod HandedOn
 pub mod Submits
 pub mod GroupEvents
 pub mod ManyLanes
@@ -38,7 +38,6 @@ pub mod Steps
 pub mod Openings
 pub mod Slots
 pub mod OnDisk
-pub mod SourceRuns
 pub mod Commands
 pub mod CountedActs
 pub mod CountedTags
@@ -47,6 +46,7 @@ pub mod CountedSteps
 pub mod CountedRuns
 pub mod GroupShares
 pub mod phases
+pub mod Moved
 pub mod Mediators
 pub mod KeptSteps
 pub mod KeptEvents

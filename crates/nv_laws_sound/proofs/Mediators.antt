@@ -1,34 +1,25 @@
 -- Events of guests and of the mediator neither read nor write the disk and its marks.
-use Rattle.std.proofs.Common.{◌≡◌, ℕ, Bool, true, false, cond, ◌&&◌, ◌==◌, nat_le, List, [], ◌∷◌, length, slice_get, Option, Some, None, refl, ap, ◌∙◌}
+use Rattle.std.proofs.Common.{◌≡◌, ℕ, Bool, true, false, cond, ◌==◌, List, [], ◌∷◌, map, slice_get, Option, Some, None, refl, sym, ap, ◌∙◌}
+use Rattle.std.proofs.lemmas.List.{map-id}
 use Rattle.nv_entry.specs.StatusCode.{done_with}
-use Rattle.nv_entry.specs.Submission.{cid_of}
-use Rattle.nv_entry.specs.Completion.{cid_of as completed_cid, status_of}
 use Rattle.nv_entry.specs.Status.{StatusField}
-use Rattle.nv_entry.specs.declared.status_code.StatusCode.TheVariants.{InternalError, Success}
+use Rattle.nv_entry.specs.declared.status_code.StatusCode.TheVariants.{Success}
+use Rattle.nv_laws_sound.proofs.Moved.{IsNoSubmit, IsPlacing, lane_moved, others-onto, world_moved}
 use Rattle.nv_laws_sound.specs.Mediators.{IsMediators, after_on, on_disk}
-use Rattle.nv_mem.specs.GuestMap.{all_mapped, everywhere}
-use Rattle.nv_model.specs.Admin.{NothingToDo, QueueFull, Stepped, admin}
-use Rattle.nv_model.specs.Controller.{Posted, doorbell, front, is_enabled, post, ran_out, reg_read, reg_write, took}
-use Rattle.nv_model.specs.Judge.{is_read}
-use Rattle.nv_model.specs.Limits.{part_size}
-use Rattle.nv_model.specs.Memory.{bytes_from, image, stored}
-use Rattle.nv_model.specs.Private.{controlled, register_replied, replied as done_as}
-use Rattle.nv_model.specs.Queue.{is_empty}
 use Rattle.nv_model.specs.Transcript.{Outcome, ReadDone, Settled, Wanted}
 use Rattle.nv_model.specs.declared.act.Act.{Act}
 use Rattle.nv_model.specs.declared.act.Act.TheVariants as act
 use Rattle.nv_model.specs.declared.reply.Reply.TheVariants as reply
-use Rattle.nv_world_model.specs.Area.{bounce_page}
 use Rattle.nv_world_model.specs.Device.{DeviceLane}
-use Rattle.nv_world_model.specs.Geometry.{Geometry, regions_of, shape_of}
+use Rattle.nv_world_model.specs.Geometry.{Geometry}
 use Rattle.nv_world_model.specs.Plan.{Answer, Bounced, Direct, NoData, Plan, plan_over}
-use Rattle.nv_world_model.specs.Seat.{Owner, completion_at, owner_of, put_back, seat}
-use Rattle.nv_world_model.specs.Share.{Share, shares_of, tags_of_entry}
+use Rattle.nv_world_model.specs.Seat.{Owner, owner_of}
+use Rattle.nv_world_model.specs.Share.{Share, shares_of}
 use Rattle.nv_world_model.specs.ShareArea.{is_no_command}
-use Rattle.nv_world_model.specs.Step.{After, acted_by, acted_in, administered_by, administered_in, carried_out, carry_out, completion_read, deciding, delivered, delivered_all, delivered_by, delivered_from}
-use Rattle.nv_world_model.specs.Step.{ended_at, ended_at_once, ended_status, entry_at, for_ended, for_one, for_owner, for_taken, handed_on, is_io_queue, is_success, list_at, listed, post_all, post_at, post_by}
-use Rattle.nv_world_model.specs.Step.{posted_to, ran_out_of, reap, reaped, replied, scattered_to, status_before, statuses_of, step, submit_by, submitted, submitted_on, take_from, take_front, take_tags, taken_to}
-use Rattle.nv_world_model.specs.World.{Command, Ended, Flying, Free, Lane, Tag, Taken, World, claimed, group, tag_of, with_controller, with_lane, with_tag, with_tags}
+use Rattle.nv_world_model.specs.Step.{After, carried_out, carry_out}
+use Rattle.nv_world_model.specs.Step.{ended_at_once, for_one, for_owner, for_taken, handed_on}
+use Rattle.nv_world_model.specs.Step.{replied, step, submit_by, submitted, submitted_on}
+use Rattle.nv_world_model.specs.World.{Command, Ended, Flying, Free, Lane, Tag, Taken, World, group, tag_of, with_tag, with_tags}
 use Rattle.nv_world_model.specs.declared.event.Event.{Event}
 use Rattle.nv_world_model.specs.declared.event.Event.TheVariants as event
 
@@ -61,79 +52,12 @@ module _ (disk : ℕ → ℕ → ℕ) (kept : ℕ → Bool) where
   taken tag (Some (Flying c share standing)) w f g each = refl
   taken tag (Some (Ended c st share)) w f g each = refl
 
-  ended : (tag : ℕ) (t : Option Tag) (w : World) (f g : Command → After) → ((c : Command) → f c ≡ after (g c))
-      → for_ended tag t (onto w) f ≡ after (for_ended tag t w g)
-  ended tag None w f g each = refl
-  ended tag (Some Free) w f g each = refl
-  ended tag (Some (Taken c rs)) w f g each = refl
-  ended tag (Some (Flying c share standing)) w f g each = refl
-  ended tag (Some (Ended c st share)) w f g each = either (c.leader == tag) (f c) (replied reply.Stale (onto w)) (g c) (replied reply.Stale w) (each c) refl
-
   tags-onto : (lane : ℕ) (tags : List ℕ) (t : Tag) (w : World) → with_tags lane tags t (onto w) ≡ onto (with_tags lane tags t w)
   unfolding with_tags
   tags-onto lane [] t w = refl
   tags-onto lane (tag ∷ tags) t w = tags-onto lane tags t (with_tag lane tag t w)
 
-  -- ---- guests
-
-  acted-onto : (geometry : Geometry) (a : Act) (o : Owner) (w : World) → acted_in geometry a o (onto w) ≡ after (acted_in geometry a o w)
-  unfolding acted_in seat put_back
-  acted-onto geometry (act.Store addr bytes) o w =
-      let p = seat geometry o (onto w) in
-      let q = seat geometry o w in
-      elim (everywhere (shape_of o.given).mapped addr (length bytes)) as (λ b.
-      acted_by (cond b (done_as reply.Done (record p { memory = stored p.memory addr bytes })) (done_as reply.Unmapped p)) o (onto w)
-      ≡ after (acted_by (cond b (done_as reply.Done (record q { memory = stored q.memory addr bytes })) (done_as reply.Unmapped q)) o w)) [ true ↦ refl | false ↦ refl ]
-  acted-onto geometry (act.Load addr len) o w =
-      let p = seat geometry o (onto w) in
-      let q = seat geometry o w in
-      elim (everywhere (shape_of o.given).mapped addr len) as (λ b.
-      acted_by (cond b (done_as (reply.Bytes (bytes_from p.memory addr len)) p) (done_as reply.Unmapped p)) o (onto w)
-      ≡ after (acted_by (cond b (done_as (reply.Bytes (bytes_from q.memory addr len)) q) (done_as reply.Unmapped q)) o w)) [ true ↦ refl | false ↦ refl ]
-  acted-onto geometry (act.RegRead offset) o w =
-      elim (reg_read o.controller offset) as (λ x.
-      acted_by (register_replied x (seat geometry o (onto w))) o (onto w) ≡ after (acted_by (register_replied x (seat geometry o w)) o w)) [ None ↦ refl | Some value ↦ refl ]
-  acted-onto geometry (act.RegWrite offset value) o w =
-      elim (reg_write (shape_of o.given).mapped o.controller offset value) as (λ x.
-      acted_by (controlled x (seat geometry o (onto w))) o (onto w) ≡ after (acted_by (controlled x (seat geometry o w)) o w)) [ None ↦ refl | Some c ↦ refl ]
-  acted-onto geometry (act.Doorbell offset value) o w =
-      elim (doorbell o.controller offset value) as (λ x.
-      acted_by (controlled x (seat geometry o (onto w))) o (onto w) ≡ after (acted_by (controlled x (seat geometry o w)) o w)) [ None ↦ refl | Some c ↦ refl ]
-
-  administered-onto : (o : Owner) (w : World) → administered_in o (onto w) ≡ after (administered_in o w)
-  unfolding administered_in put_back
-  administered-onto o w =
-      elim (admin (shape_of o.given).mapped (shape_of o.given).blocks o.controller (image (regions_of o.given) w.host)) as (λ x.
-      administered_by x o (onto w) ≡ after (administered_by x o w)) [ NothingToDo ↦ refl | QueueFull ↦ refl | Stepped c memory ↦ refl ]
-
-  -- ---- Take and List
-
-  by-tags : (x : Option (List ℕ)) (addr queue lane : ℕ) (o : Owner) (w : World) → take_tags x addr queue lane o (onto w) ≡ after (take_tags x addr queue lane o w)
-  unfolding taken_to
-  by-tags None addr queue lane o w = refl
-  by-tags (Some tags) addr queue lane o w = ap (replied reply.Done) (tags-onto lane tags _ (with_controller o.number (took o.controller queue) w))
-
-  by-front : (x : Option ℕ) (queue number : ℕ) (l : Lane) (o : Owner) (w : World) → take_front x queue number l o (onto w) ≡ after (take_front x queue number l o w)
-  by-front None queue number l o w = refl
-  by-front (Some addr) queue number l o w = by-tags (claimed (tags_of_entry o.given.namespace (entry_at addr o w)) l.tags) addr queue number o w
-
-  take-onto : (queue number : ℕ) (l : Lane) (o : Owner) (w : World) → take_from queue number l o (onto w) ≡ after (take_from queue number l o w)
-  take-onto queue number l o w =
-      either (is_io_queue queue) (take_front (front o.controller queue) queue number l o (onto w)) (replied reply.Ignored (onto w))
-      (take_front (front o.controller queue) queue number l o w) (replied reply.Ignored w) (by-front (front o.controller queue) queue number l o w) refl
-
-  list-onto : (addr len lane tag : ℕ) (c : Command) (rs : List ReadDone) (o : Owner) (w : World) → list_at addr len lane tag c rs o (onto w) ≡ after (list_at addr len lane tag c rs o w)
-  unfolding listed
-  list-onto addr len lane tag c rs o w =
-      elim (all_mapped (regions_of o.given) addr len) as (λ b.
-      cond b (cond (nat_le 1 len && nat_le len part_size) (listed addr len lane tag c rs o (onto w)) (replied reply.Ignored (onto w))) (replied reply.Unmapped (onto w))
-      ≡ after (cond b (cond (nat_le 1 len && nat_le len part_size) (listed addr len lane tag c rs o w) (replied reply.Ignored w)) (replied reply.Unmapped w))) [
-        | true ↦ either (nat_le 1 len && nat_le len part_size) (listed addr len lane tag c rs o (onto w)) (replied reply.Ignored (onto w))
-            (listed addr len lane tag c rs o w) (replied reply.Ignored w) refl refl
-        | false ↦ refl
-      ]
-
-  -- ---- Submit and GiveUp
+  -- ---- Submit
 
   at-once : (lane : ℕ) (tags : List ℕ) (c : Command) (st : StatusField) (w : World) → ended_at_once lane tags c st (onto w) ≡ onto (ended_at_once lane tags c st w)
   at-once lane [] c st w = refl
@@ -176,108 +100,48 @@ module _ (disk : ℕ → ℕ → ℕ) (kept : ℕ → Bool) where
   submit-onto (Wanted addr len) mediator lane tags c o w = refl
   submit-onto (Settled plan) mediator lane tags c o w = ap (replied reply.Done) (carry-onto plan mediator lane tags c o w)
 
-  -- ---- Reap and Post
+  -- ---- every other event
 
-  ended-onto : (x : Option Tag) (st : StatusField) (lane tag : ℕ) (w : World) → ended_at x st lane tag (onto w) ≡ onto (ended_at x st lane tag w)
-  ended-onto None st lane tag w = refl
-  ended-onto (Some Free) st lane tag w = refl
-  ended-onto (Some (Taken c rs)) st lane tag w = refl
-  ended-onto (Some (Flying c share standing)) st lane tag w = refl
-  ended-onto (Some (Ended c other share)) st lane tag w = refl
+  abbrev to_disk : (ℕ → ℕ → ℕ) → ℕ → ℕ → ℕ
+  to_disk _ = disk
 
-  reap-onto : (geometry : Geometry) (number : ℕ) (l : Lane) (d : DeviceLane) (w : World) → reap geometry number l d (onto w) ≡ after (reap geometry number l d w)
-  unfolding reaped
-  reap-onto geometry number l d w =
-      let completion = completion_at geometry w number l.head in
-      either (is_empty l.head d.posted) (replied reply.Idle (onto w)) (replied reply.Done (reaped number completion (onto w)))
-      (replied reply.Idle w) (replied reply.Done (reaped number completion w)) refl
-      (ap (replied reply.Done) (ended-onto (tag_of w number (completed_cid completion)) (status_of completion) number (completed_cid completion) (with_lane number completion_read w)))
+  abbrev to_marks : (ℕ → Bool) → ℕ → Bool
+  to_marks _ = kept
 
-  by-plan : (plan : Plan) (bounce : ℕ) (o : Owner) (w : World) → delivered_by plan bounce o (onto w) ≡ onto (delivered_by plan bounce o w)
-  unfolding scattered_to
-  by-plan (Answer st) bounce o w = refl
-  by-plan (NoData work) bounce o w = refl
-  by-plan (Direct work) bounce o w = refl
-  by-plan (Bounced work) bounce o w =
-      elim (is_read work.opcode) as (λ b. cond b (scattered_to bounce work o (onto w)) (onto w) ≡ onto (cond b (scattered_to bounce work o w) w)) [ true ↦ refl | false ↦ refl ]
+  placing : IsPlacing (λ t. t)
+  placing = record { free = refl; taken = λ c rs. refl; flying = λ c share standing. (standing, refl); ended = λ c st share. refl }
 
-  from-onto : (x : Option Tag) (bounce : ℕ) (o : Owner) (w : World) → delivered_from x bounce o (onto w) ≡ onto (delivered_from x bounce o w)
-  from-onto None bounce o w = refl
-  from-onto (Some Free) bounce o w = refl
-  from-onto (Some (Taken c rs)) bounce o w = refl
-  from-onto (Some (Flying c share standing)) bounce o w = refl
-  from-onto (Some (Ended c st None)) bounce o w = refl
-  from-onto (Some (Ended c st (Some share))) bounce o w = by-plan share.plan bounce o w
+  lanes-same : (ls : List Lane) → map (lane_moved (λ t. t)) ls ≡ ls
+  lanes-same [] = refl
+  lanes-same (l ∷ ls) =
+      ap (λ (ts : List Tag). let k : Lane = record l { tags = ts } in (k ∷ map (lane_moved (λ t. t)) ls)) (map-id l.tags)
+      ∙ ap (λ (ks : List Lane). l ∷ ks) (lanes-same ls)
 
-  all-onto : (mediator lane : ℕ) (tags : List ℕ) (o : Owner) (w : World) → delivered_all mediator lane tags o (onto w) ≡ onto (delivered_all mediator lane tags o w)
-  unfolding delivered_all
-  all-onto mediator lane [] o w = refl
-  all-onto mediator lane (tag ∷ tags) o w =
-      ap (delivered_all mediator lane tags o) (from-onto (tag_of w lane tag) (bounce_page mediator lane tag) o w)
-      ∙ all-onto mediator lane tags o (delivered_from (tag_of w lane tag) (bounce_page mediator lane tag) o w)
+  moved-same : (w : World) → world_moved (λ t. t) to_disk to_marks w ≡ onto w
+  moved-same w = ap (λ (ls : List Lane). let v : World = record w { lanes = ls; disk = disk; kept = kept } in v) (lanes-same w.lanes)
 
-  delivered-onto : (st : StatusField) (mediator lane : ℕ) (tags : List ℕ) (o : Owner) (w : World)
-      → delivered st mediator lane tags o (onto w) ≡ onto (delivered st mediator lane tags o w)
-  delivered-onto st mediator lane tags o w =
-      elim (is_success st) as (λ b. cond b (delivered_all mediator lane tags o (onto w)) (onto w) ≡ onto (cond b (delivered_all mediator lane tags o w) w)) [
-        | true ↦ all-onto mediator lane tags o w
-        | false ↦ refl
-      ]
-
-  by-posted : (x : Option Posted) (st : StatusField) (mediator lane : ℕ) (tags : List ℕ) (o : Owner) (w : World)
-      → post_by x st mediator lane tags o (onto w) ≡ after (post_by x st mediator lane tags o w)
-  unfolding posted_to put_back
-  by-posted None st mediator lane tags o w = refl
-  by-posted (Some posted) st mediator lane tags o w =
-      let v = delivered st mediator lane tags o w in
-      ap (λ (u : World). replied reply.Done (posted_to posted lane tags o u)) (delivered-onto st mediator lane tags o w)
-      ∙ ap (replied reply.Done) (tags-onto lane tags Free (put_back o (stored (image (regions_of o.given) v.host) posted.addr posted.entry) posted.controller v))
-
-  settled-onto : (c : Command) (st : StatusField) (mediator lane : ℕ) (tags : List ℕ) (o : Owner) (w : World)
-      → post_at c st mediator lane tags o (onto w) ≡ after (post_at c st mediator lane tags o w)
-  unfolding ran_out_of
-  settled-onto c st mediator lane tags o w =
-      let v = delivered st mediator lane tags o w in
-      let posted = post o.controller c.queue 0 (cid_of c.entry) st in
-      either (is_enabled o.controller) (post_by posted st mediator lane tags o (onto w))
-      (replied reply.Done (ran_out_of c.queue lane tags o (delivered st mediator lane tags o (onto w))))
-      (post_by posted st mediator lane tags o w) (replied reply.Done (ran_out_of c.queue lane tags o v)) (by-posted posted st mediator lane tags o w)
-      (ap (λ (u : World). replied reply.Done (ran_out_of c.queue lane tags o u)) (delivered-onto st mediator lane tags o w)
-      ∙ ap (replied reply.Done) (tags-onto lane tags Free (with_controller o.number (ran_out o.controller c.queue) v)))
-
-  statuses-onto : (lane : ℕ) (tags : List ℕ) (w : World) → statuses_of lane tags (onto w) ≡ statuses_of lane tags w
-  unfolding statuses_of
-  statuses-onto lane [] w = refl
-  statuses-onto lane (tag ∷ tags) w = ap (status_before (ended_status (tag_of w lane tag))) (statuses-onto lane tags w)
-
-  post-onto : (x : Option (List StatusField)) (c : Command) (mediator lane : ℕ) (tags : List ℕ) (o : Owner) (w : World)
-      → post_all x c mediator lane tags o (onto w) ≡ after (post_all x c mediator lane tags o w)
-  post-onto None c mediator lane tags o w = refl
-  post-onto (Some sts) c mediator lane tags o w = settled-onto c (deciding sts) mediator lane tags o w
+  other-alone : (geometry : Geometry) (e : Event) (w : World) → IsNoSubmit e → step geometry e (onto w) ≡ after (step geometry e w)
+  other-alone geometry e w plain =
+      let a : After = step geometry e w in
+      sym (ap (step geometry e) (moved-same w)) ∙ others-onto (λ t. t) placing to_disk to_marks geometry e w plain
+      ∙ ap (λ (v : World). let b : After = record { world = v; reply = a.reply } in b) (moved-same a.world)
 
   -- ---- the step
 
   pub left-alone : (geometry : Geometry) (e : Event) (w : World) → IsMediators e → step geometry e (onto w) ≡ after (step geometry e w)
   unfolding step group
-  left-alone geometry (event.Guest guest a) w is = one (owner_of geometry w guest) w _ _ (λ o. acted-onto geometry a o w)
-  left-alone geometry (event.Admin guest) w is = one (owner_of geometry w guest) w _ _ (λ o. administered-onto o w)
-  left-alone geometry (event.Take guest queue lane) w is =
-      one (owner_of geometry w guest) w _ _ (λ o. one (slice_get w.lanes lane) w _ _ (λ l. take-onto queue lane l o w))
-  left-alone geometry (event.List lane tag addr len) w is =
-      taken tag (tag_of w lane tag) w _ _ (λ c rs. owned (owner_of geometry w c.guest) w _ _ (λ o. list-onto addr len lane tag c rs o w))
+  left-alone geometry (event.Guest guest a) w is = other-alone geometry (event.Guest guest a) w tt
+  left-alone geometry (event.Admin guest) w is = other-alone geometry (event.Admin guest) w tt
+  left-alone geometry (event.Take guest queue lane) w is = other-alone geometry (event.Take guest queue lane) w tt
+  left-alone geometry (event.List lane tag addr len) w is = other-alone geometry (event.List lane tag addr len) w tt
   left-alone geometry (event.Submit lane tag) w is =
       taken tag (tag_of w lane tag) w _ _ (λ c rs. owned (owner_of geometry w c.guest) w _ _ (λ o. one (slice_get w.device lane) w _ _
       (λ d. submit-onto (plan_over o.given c.entry rs) geometry.mediator lane (group w lane tag) c o w)))
-  left-alone geometry (event.GiveUp lane tag) w is =
-      taken tag (tag_of w lane tag) w _ _ (λ c rs. ap (replied reply.Done) (at-once lane (group w lane tag) c (done_with InternalError) w))
+  left-alone geometry (event.GiveUp lane tag) w is = other-alone geometry (event.GiveUp lane tag) w tt
   left-alone geometry (event.DevTake lane) w is = absurd is
   left-alone geometry (event.DevMove lane slot number) w is = absurd is
   left-alone geometry (event.DevPost lane slot) w is = absurd is
   left-alone geometry (event.DevFail lane slot st) w is = absurd is
   left-alone geometry (event.Keep block) w is = absurd is
-  left-alone geometry (event.Reap lane) w is =
-      one (slice_get w.lanes lane) w _ _ (λ l. one (slice_get w.device lane) w _ _ (λ d. reap-onto geometry lane l d w))
-  left-alone geometry (event.Post lane tag) w is =
-      ended tag (tag_of w lane tag) w _ _ (λ c. owned (owner_of geometry w c.guest) w _ _ (λ o.
-      ap (λ (x : Option (List StatusField)). post_all x c geometry.mediator lane (group w lane tag) o (onto w)) (statuses-onto lane (group w lane tag) w)
-      ∙ post-onto (statuses_of lane (group w lane tag) w) c geometry.mediator lane (group w lane tag) o w))
+  left-alone geometry (event.Reap lane) w is = other-alone geometry (event.Reap lane) w tt
+  left-alone geometry (event.Post lane tag) w is = other-alone geometry (event.Post lane tag) w tt

@@ -1,34 +1,25 @@
 -- What an extent has of a run of blocks, or of a range, lies in a row.
-use Rattle.std.proofs.Common.{◌≡◌, ℕ, ◌+◌, ◌^◌, ◌<◌, ◌≤◌, ◌⊎◌, eqb, cond, Bool, true, false, List, [], ◌∷◌, ◌++◌, length, Option, Some, None}
+use Rattle.std.proofs.Common.{◌≡◌, ℕ, ◌+◌, ◌^◌, ◌<◌, ◌≤◌, ◌⊎◌, eqb, cond, Bool, true, false, List, [], ◌∷◌, Option, Some, None}
 use Rattle.std.proofs.Common.{refl, ap, sym, ◌∙◌, inl, inr, subst, arith, eqb-true}
 use Rattle.std.specs.Bool.{⊤}
 use Rattle.std.specs.List.{All, Contains, cons_option, enumerate_from, filter_map, list_all}
 use Rattle.std.specs.Option.{option_map}
 use Rattle.std.proofs.lemmas.Bool.{cases_lt}
-use Rattle.std.proofs.lemmas.Grind.{common_steps}
 use Rattle.std.proofs.lemmas.List.Elements.{All-cons, All-contains, All-head, All-nil, All-tail}
-use Rattle.byteorder.specs.Numbers.{little_number-reads_back}
-use Rattle.nv_entry.specs.Layout.{dword, number_at, number_bytes, qword}
-use Rattle.nv_entry.specs.Range.{attributes_of, blocks_of, start_of}
-use Rattle.nv_ns.specs.Extents.{Cut, Namespace, Placed, blocks_in, common, cuts, if_any, place_in, placed}
+use Rattle.nv_entry.specs.Range.{blocks_of, start_of}
+use Rattle.nv_ns.specs.Extents.{Cut, Namespace, Placed, blocks_in, common, if_any, place_in, placed}
 use Rattle.nv_ns.specs.Laws.{NamesBlocks}
-use Rattle.nv_ns.proofs.CutWalk.{cuts-walk}
-use Rattle.nv_ns.proofs.Spelled.{walk-names}
+use Rattle.nv_ns.proofs.Spelled.{cuts-name}
 use Rattle.nv_model.specs.Judge.{range_fits}
 use Rattle.nv_model.proofs.Endings.{and-true}
 use Rattle.nv_world_model.specs.Area.{range_place}
 use Rattle.nv_world_model.specs.Share.{cut_range, range_in, ranges_met}
+use Rattle.nv_world_model.proofs.RangeCuts.{cut-fields, no_cut, some_cut}
 use Rattle.nv_laws_sound.proofs.Namespaces.{range-within, range_place-some}
 
 -- ---- what an extent has of a run
 
 -- what holds of all cuts holds of what each extent has, where it has blocks
-some_cut : (cut : Cut) → 0 < cut.count → if_any cut ≡ Some cut
-some_cut cut some = grind (arith, common_steps)
-
-no_cut : (cut : Cut) → cut.count ≡ 0 → if_any cut ≡ None
-no_cut cut none = grind (arith, common_steps)
-
 met-all : (P : Cut → Type 0) (f : Placed → Cut) (ats : List Placed) → All P (filter_map (λ at. if_any (f at)) ats)
     → All (λ at. 0 < (f at).count → P (f at)) ats
 met-all P f [] each = All-nil (λ at. 0 < (f at).count → P (f at))
@@ -45,38 +36,11 @@ met-all P f (at ∷ rest) each =
     ]
 
 -- it names the blocks where they lie
-pub cuts-name : (ns : Namespace) (slba count : ℕ) → All (NamesBlocks ns slba count) (cuts ns slba count)
-cuts-name ns slba count = subst (All (NamesBlocks ns slba count)) (sym (cuts-walk ns slba count)) (walk-names ns slba count)
-
 pub common-names : (ns : Namespace) (at : Placed) (slba count : ℕ) → Contains (placed 0 ns) at → 0 < (common at slba count).count
     → NamesBlocks ns slba count (common at slba count)
 common-names ns at slba count among =
     All-contains (λ x. 0 < (common x slba count).count → NamesBlocks ns slba count (common x slba count)) (placed 0 ns) at
     (met-all (NamesBlocks ns slba count) (λ x. common x slba count) (placed 0 ns) (cuts-name ns slba count)) among
-
--- ---- what is read of the part of a range
-
-abbrev cut_bytes : (range : List ℕ) → Cut → List ℕ
-cut_bytes range cut = number_bytes 4 (attributes_of range) ++ number_bytes 4 cut.count ++ number_bytes 8 (start_of range + cut.first)
-
-bytes-blocks : (range : List ℕ) (cut : Cut) → cut.count < 2 ^ 32 → blocks_of (cut_bytes range cut) ≡ cut.count
-unfolding dword number_at
-bytes-blocks range cut fits = little_number-reads_back 4 cut.count (number_bytes 8 (start_of range + cut.first)) fits
-
-bytes-start : (range : List ℕ) (cut : Cut) → start_of range + cut.first < 2 ^ 64 → start_of (cut_bytes range cut) ≡ start_of range + cut.first
-unfolding qword number_at
-bytes-start range cut fits = little_number-reads_back 8 (start_of range + cut.first) [] fits
-
--- its blocks, from its first on
-cut-fields : (range : List ℕ) (cut : Cut) → cut.first + cut.count ≤ blocks_of range → blocks_of range < 2 ^ 32
-    → start_of range + blocks_of range < 2 ^ 64
-    → (blocks_of (cut_range range cut) ≡ cut.count) × (start_of (cut_range range cut) ≡ start_of range + cut.first)
-cut-fields range cut within short fits =
-    (elim (eqb cut.count (blocks_of range)) as (λ b. eqb cut.count (blocks_of range) ≡ b
-    → (blocks_of (cond b range (cut_bytes range cut)) ≡ cut.count) × (start_of (cond b range (cut_bytes range cut)) ≡ start_of range + cut.first)) [
-      | true ↦ λ is. (let same = eqb-true cut.count (blocks_of range) is in (sym same, omega (arith, same, within)))
-      | false ↦ λ is. (bytes-blocks range cut (omega (arith, within, short)), bytes-start range cut (omega (arith, within, fits)))
-    ]) refl
 
 -- ---- a range in one extent
 
@@ -154,16 +118,6 @@ ranges-rows ns number at (range ∷ rest) among fit small =
         → All (IsRangeRow ns) (cons_option o (ranges_met number at rest))
     joined None is others = others
     joined (Some part) is others = All-cons (IsRangeRow ns) part (ranges_met number at rest) is others
-
--- which are no more than there are
-pub ranges_met-few : (number : ℕ) (at : Placed) (ranges : List (List ℕ)) → length (ranges_met number at ranges) ≤ length ranges
-ranges_met-few number at [] = omega arith
-ranges_met-few number at (range ∷ rest) = one (range_in number at range) (ranges_met-few number at rest)
-  where
-    one : (o : Option (List ℕ)) → length (ranges_met number at rest) ≤ length rest
-        → length (cons_option o (ranges_met number at rest)) ≤ length (range ∷ rest)
-    one None few = omega (arith, few)
-    one (Some part) few = omega (arith, few)
 
 -- ---- members by their numbers
 

@@ -1,40 +1,33 @@
 -- What a share's own work is: blocks in a row in one extent, with their bytes, or ranges of which each lies in one.
-use Rattle.std.proofs.Common.{◌≡◌, ℕ, zero, suc, ◌+◌, ◌-◌, ◌*◌, ◌^◌, ◌<◌, ◌≤◌, min, Bool, true, false, List, [], length, map, slice_get}
-use Rattle.std.proofs.Common.{drop, Some, refl, ap, sym, ◌∙◌, subst, arith}
-use Rattle.std.specs.List.{All, Contains, cons_option, enumerate_from, list_all, range_with_len}
-use Rattle.std.specs.Option.{option_map}
-use Rattle.std.proofs.lemmas.List.{length-drop, length-map, length-take, length-take-le}
+use Rattle.std.proofs.Common.{◌≡◌, ℕ, ◌+◌, ◌-◌, ◌*◌, ◌^◌, ◌<◌, ◌≤◌, Bool, true, false, List, [], length, map}
+use Rattle.std.proofs.Common.{refl, sym, subst, arith}
+use Rattle.std.specs.List.{All, Contains, enumerate_from, list_all, range_with_len}
 use Rattle.std.proofs.lemmas.List.Elements.{All-cons, All-contains, All-contains_itself, All-map, All-nil, All-weaker}
 use Rattle.nv_entry.specs.Submission.{slba_of}
 use Rattle.nv_mem.specs.GuestMap.{mapped}
-use Rattle.nv_mem.specs.Places.{places_of, total_len}
-use Rattle.nv_mem.specs.declared.piece.Piece.{Piece}
-use Rattle.nv_mem.proofs.PlaceLists.{length-places_of}
+use Rattle.nv_mem.specs.Places.{total_len}
 use Rattle.nv_ns.specs.Extents.{Cut, Namespace, Placed, blocks_in, cuts, place_in, placed}
 use Rattle.nv_ns.specs.Laws.{NamesBlocks}
-use Rattle.nv_ns.proofs.CutWalk.{cuts-walk}
-use Rattle.nv_ns.proofs.Spelled.{walk-some}
-use Rattle.nv_model.specs.Judge.{ClearBlock, Clear, Form, KeepAll, Keep, LeaveBlock, Manage, MoveBlock, Transfer, Work, WorkUnit, count_of}
+use Rattle.nv_ns.proofs.Spelled.{cuts-name, cuts-some}
+use Rattle.nv_model.specs.Judge.{Clear, Form, Keep, Manage, Transfer, Work, WorkUnit, count_of}
 use Rattle.nv_model.specs.Judge.{form_has_blocks, form_of}
-use Rattle.nv_model.specs.Judge.{clear_units, form_transfer_len, form_units, is_fua, move_units, range_count_of, range_fits}
+use Rattle.nv_model.specs.Judge.{form_transfer_len, form_units, is_fua, range_count_of, range_fits}
 use Rattle.nv_model.specs.Laws.{IsMappedPiece}
 use Rattle.nv_model.specs.Limits.{block, range_size}
 use Rattle.nv_model.proofs.AnyAnswers.{end-sound}
-use Rattle.nv_model.proofs.Units.{clear_units-at, length-clear_units, length-move_units, move_units-at}
 use Rattle.nv_prp.specs.Fits.{places_fit}
 use Rattle.nv_world_model.specs.Geometry.{Guest, regions_of, shape_of}
 use Rattle.nv_world_model.specs.Plan.{Bounced, Direct, NoData, Plan, go_plan, transfer_plan}
 use Rattle.nv_world_model.specs.Share.{Share, block_share, cut_pieces, numbers_met, range_share, ranges_met, shares_by, shares_of}
-use Rattle.nv_world_model.specs.Share.{unit_behind, units_at, whole_share, with_work}
-use Rattle.nv_world_model.specs.ShareArea.{first_lba, unit_lba}
+use Rattle.nv_world_model.specs.Share.{units_at, whole_share, with_work}
+use Rattle.nv_world_model.specs.ShareArea.{first_lba}
 use Rattle.nv_world_model.proofs.CutFits.{cut_pieces-fit}
-use Rattle.nv_world_model.proofs.CutPieces.{places_of-cut_pieces}
+use Rattle.nv_world_model.proofs.CutPieces.{cut-total, cut_pieces-mapped}
+use Rattle.nv_world_model.proofs.RangeCuts.{ranges_met-few}
 use Rattle.nv_world_model.proofs.ShareParts.{run_work}
-use Rattle.nv_world_model.proofs.ShareUnits.{units_at-range}
-use Rattle.nv_world_model.proofs.Windows.{window}
+use Rattle.nv_world_model.proofs.ShareUnits.{IsFrom, clears-from, moves-from, units_at-lba, units-size}
 use Rattle.nv_laws_sound.specs.Consistent.{IsPlanned}
-use Rattle.nv_laws_sound.proofs.CutMapped.{cut_pieces-mapped}
-use Rattle.nv_laws_sound.proofs.OwnRows.{IsRangeRow, cuts-name, enumerated-all, ranges-rows, ranges_met-few}
+use Rattle.nv_laws_sound.proofs.OwnRows.{IsRangeRow, enumerated-all, ranges-rows}
 
 -- ---- what it is
 
@@ -71,74 +64,21 @@ pub record IsOwnBy (form : Form) (guest : Guest) (entry : List ℕ) (work : Work
 abbrev pub IsOwn : Guest → (entry : List ℕ) → Work → Share → Type 0
 IsOwn guest entry work share = IsOwnBy (form_of work.opcode) guest entry work share
 
--- ---- pieces and units
-
--- how many bytes are cut out
-cut-total : (skip len : ℕ) (pieces : List Piece) → total_len (cut_pieces skip len pieces) ≡ min len (total_len pieces - skip)
-cut-total skip len pieces =
-    let size = length-places_of pieces in
-    let own = length-places_of (cut_pieces skip len pieces) in
-    let taken = length-take len (drop skip (places_of pieces)) in
-    let dropped = length-drop skip (places_of pieces) in
-    let same = ap length (places_of-cut_pieces skip len pieces) in
-    omega (arith, size, own, taken, dropped, same)
-
--- units of blocks in a row
-record IsFrom (slba count : ℕ) (units : List WorkUnit) : Type 0 where
-  pub size : length units ≡ count
-  pub at : (k : ℕ) → k < count → (unit : WorkUnit) × ((slice_get units k ≡ Some unit) × (unit_lba unit ≡ slba + k))
-
-moves-from : (slba count : ℕ) (units : List WorkUnit) → units ≡ move_units (range_with_len slba count) → IsFrom slba count units
-moves-from slba count units is =
-    record {
-      size = ap length is ∙ length-move_units slba count;
-      at = (λ k below. (MoveBlock k (slba + k), (ap (λ us. slice_get us k) is ∙ move_units-at slba count k below, refl)));
-    }
-
-clears-from : (mark : Bool) (slba count : ℕ) (units : List WorkUnit) → units ≡ clear_units mark (range_with_len slba count)
-    → IsFrom slba count units
-clears-from mark slba count units is =
-    record {
-      size = ap length is ∙ length-clear_units mark slba count;
-      at = (λ k below. (ClearBlock (slba + k) mark, (ap (λ us. slice_get us k) is ∙ clear_units-at mark slba count k below, refl)));
-    }
-
-lba-behind : (first : ℕ) (unit : WorkUnit) → unit_lba (unit_behind first unit) ≡ unit_lba unit
-lba-behind first (MoveBlock index lba) = refl
-lba-behind first (ClearBlock lba mark) = refl
-lba-behind first (LeaveBlock lba) = refl
-lba-behind first (KeepAll blocks) = refl
-
--- those of a cut
-abbrev run_units : List WorkUnit → (first count : ℕ) → List WorkUnit
-run_units units first count = units_at first units (range_with_len first count)
-
-run-size : (first count : ℕ) (units : List WorkUnit) → first + count ≤ length units → length (run_units units first count) ≡ count
-run-size first count units within =
-    let rest = length-drop first units in
-    ap length (units_at-range first units first count within) ∙ length-map (window first count units) (unit_behind first)
-    ∙ length-take-le count (drop first units) (omega (arith, rest, within))
-
-run-lba : (first count lba : ℕ) (units : List WorkUnit) (unit : WorkUnit) → 0 < count → slice_get units first ≡ Some unit → unit_lba unit ≡ lba
-    → first_lba (run_units units first count) ≡ lba
-run-lba first zero lba units unit some there is = absurd (omega (arith, some))
-run-lba first (suc count) lba units unit some there is =
-    ap (λ o. first_lba (cons_option (option_map (unit_behind first) o) (units_at first units (range_with_len (first + 1) count)))) there
-    ∙ lba-behind first unit ∙ is
+-- ---- units
 
 run-row : (ns : Namespace) (slba count : ℕ) (cut : Cut) (units : List WorkUnit) → NamesBlocks ns slba count cut → 0 < cut.count
-    → IsFrom slba count units → IsRow ns slba count (run_units units cut.first cut.count)
+    → IsFrom slba count units → IsRow ns slba count (units_at cut.first units (range_with_len cut.first cut.count))
 run-row ns slba count cut units names some from =
     let within = names.0 in
     let all = from.size in
-    let size = run-size cut.first cut.count units (omega (arith, within, all)) in
+    let size = units-size cut.first cut.count units (omega (arith, within, all)) in
     let head = from.at cut.first (omega (arith, within, some)) in
     record {
       first = cut.first;
       start = cut.start;
       some = omega (arith, size, some);
       within = omega (arith, size, within);
-      lba = run-lba cut.first cut.count (slba + cut.first) units head.0 some head.1.0 head.1.1;
+      lba = units_at-lba cut.first cut.count (slba + cut.first) units head.0 some head.1.0 head.1.1;
       row = (λ i below. names.1 i (omega (arith, below, size)));
     }
 
@@ -169,7 +109,7 @@ move-own dest guest entry plan work cut sound names some =
     let within = names.0 in
     let from = moves-from (slba_of entry) (count_of entry) work.units sound.units in
     let all = from.size in
-    let size = run-size cut.first cut.count work.units (omega (arith, within, all)) in
+    let size = units-size cut.first cut.count work.units (omega (arith, within, all)) in
     let total = sound.total in
     let bytes = cut-total (block * cut.first) (block * cut.count) work.pieces in
     record {
@@ -207,14 +147,13 @@ clear-own guest entry plan work cut sound names some =
     }
 
 -- of all cuts
-run-shares : (Q : Share → Type 0) (guest : Guest) (entry : List ℕ) (plan : Plan) (work : Work)
+pub run-shares : (Q : Share → Type 0) (guest : Guest) (entry : List ℕ) (plan : Plan) (work : Work)
     → ((cut : Cut) → NamesBlocks guest.namespace (slba_of entry) (count_of entry) cut → 0 < cut.count → Q (block_share plan work cut))
     → All Q (map (block_share plan work) (cuts guest.namespace (slba_of entry) (count_of entry)))
 run-shares Q guest entry plan work each =
     let ns = guest.namespace in
     let all : List Cut = cuts ns (slba_of entry) (count_of entry) in
-    let some : All (λ (cut : Cut). 0 < cut.count) all =
-    subst (All (λ (cut : Cut). 0 < cut.count)) (sym (cuts-walk ns (slba_of entry) (count_of entry))) (walk-some 0 ns (slba_of entry) (count_of entry)) in
+    let some : All (λ (cut : Cut). 0 < cut.count) all = cuts-some ns (slba_of entry) (count_of entry) in
     All-map Q (block_share plan work) all
     (All-weaker (Contains all) (λ cut. Q (block_share plan work cut))
     (λ cut among. each cut

@@ -33,13 +33,13 @@ filter-at {X = X} q (y ∷ ys) (suc n) x at passes =
       | false ↦ rest
     ]
 
-abbrev is_reading : Part → Bool
+abbrev pub is_reading : Part → Bool
 is_reading NoPart = false
 is_reading (Reading command) = true
 is_reading (Handed command share) = false
 is_reading (AtOnce command st) = false
 
-handed-none : (command : Command) (shares : List Share) → All (λ p. is_reading p ≡ false) (map (Handed command) shares)
+pub handed-none : (command : Command) (shares : List Share) → All (λ p. is_reading p ≡ false) (map (Handed command) shares)
 handed-none command [] = All-nil (λ p. is_reading p ≡ false)
 handed-none command (share ∷ shares) =
     All-cons (λ p. is_reading p ≡ false) (Handed command share) (map (Handed command) shares) refl (handed-none command shares)

@@ -1,6 +1,7 @@
 //! What is asked of the mediator: nothing changes.
 
-ghost use Rattle.std.specs.Prelude.{◌≡◌, ◌≤◌, ◌↔◌, IfOk, IfSome, IsSome, IsTrue, MatchOption, None, OnErr, Some, length, slice_get};
+ghost use Rattle.std.specs.Prelude.{◌≡◌, ◌<◌, ◌≤◌, ◌↔◌, IfOk, IfSome, IsSome, IsTrue, MatchOption, None, OnErr, Some, length, slice_get};
+ghost use Rattle.nv_core.specs.Held.{held_in};
 ghost use Rattle.nv_core.specs.Jobs.{holder_of, job_of};
 ghost use Rattle.nv_core.specs.Shown.{IsBlock, mark_shown};
 ghost use Rattle.nv_core.specs.State.{world_of};
@@ -9,6 +10,7 @@ ghost use Rattle.nv_device.specs.Units.{IsLowest};
 ghost use Rattle.nv_mediator.specs.Hosted.{limit_of, map_of, range_of, setup_of};
 ghost use Rattle.nv_model.specs.Memory.{byte_in};
 ghost use Rattle.nv_world_model.specs.Due.{due};
+ghost use Rattle.nv_world_model.specs.SetUp.{most_guests};
 
 use crate::mediator::Mediator;
 use nv_core::Holder;
@@ -110,6 +112,14 @@ impl Mediator {
         ensures { result ≡ holder_of (world_of self.now.state) lane tag }
     {
         self.core.holder(lane, tag)
+    }
+
+    /// How many tags of a lane the commands of a guest have. There are none of a number from 16 on, which is no guest's, and none where there is no such lane.
+    #[inline]
+    pub fn held_by(&self, lane: u8, guest: u8) -> u8
+        ensures { guest < most_guests → result ≡ held_in guest (slice_get (world_of self.now.state).lanes lane) }
+    {
+        self.core.held_by(lane, guest)
     }
 
     /// The host's memory: the guests' memory, by their maps, the mediator's area, and what is nobody's.

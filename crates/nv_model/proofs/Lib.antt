@@ -28,6 +28,7 @@ pub mod Running
 pub mod RunPieces
 pub mod RunningFacts
 pub mod SglSequenced
+pub mod SourceRuns
 pub mod Shown
 pub mod Spelled
 pub mod StepsAlike

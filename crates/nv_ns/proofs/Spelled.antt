@@ -273,6 +273,13 @@ walk-names ns slba count =
     All-weaker (NamesFrom 0 ns slba count) (NamesBlocks ns slba count) (λ cut names. NamesBlocks-from ns slba count cut names)
     (walk 0 ns slba count) (walk-names_from 0 ns slba count)
 
+-- each cut of a run of blocks does so, and has some
+pub cuts-name : (ns : Namespace) (slba count : ℕ) → All (NamesBlocks ns slba count) (cuts ns slba count)
+cuts-name ns slba count = subst (All (NamesBlocks ns slba count)) (sym (cuts-walk ns slba count)) (walk-names ns slba count)
+
+pub cuts-some : (ns : Namespace) (slba count : ℕ) → All (λ (cut : Cut). 0 < cut.count) (cuts ns slba count)
+cuts-some ns slba count = subst (All (λ (cut : Cut). 0 < cut.count)) (sym (cuts-walk ns slba count)) (walk-some 0 ns slba count)
+
 -- blocks that lie in the first extent are one cut
 pub walk-first : (extent : Extent) (rest : Namespace) (slba count : ℕ) → 0 < count → slba + count ≤ extent.blocks
     → walk 0 (extent ∷ rest) slba count ≡ record { first = 0; start = extent.base + slba; count = count } ∷ []

@@ -1,7 +1,7 @@
 -- The list that parts in place are: none, one, or more.
 use Rattle.std.specs.Prelude.{◌≡◌, ◌≤◌, List, [], ◌∷◌, length}
 use Rattle.std.proofs.Common.{refl, arith}
-use Rattle.nv_ns.specs.Extents.{Cut}
+use Rattle.nv_ns.specs.Extents.{Cut, most_extents}
 use Rattle.nv_ns.specs.declared.parts.Kept.{Kept}
 use Rattle.nv_ns.specs.declared.parts.Kept.TheVariants.{More, None, One}
 
@@ -15,7 +15,7 @@ listed (More parts) = parts
 abbrev pub IsKept : Kept → Type 0
 IsKept None = Unit {0}
 IsKept (One part) = Unit {0}
-IsKept (More parts) = (2 ≤ length parts) × (length parts ≤ 8)
+IsKept (More parts) = (2 ≤ length parts) × (length parts ≤ most_extents)
 
 -- how a list of them is stored
 abbrev pub kept_of : List Cut → Kept

@@ -1,6 +1,7 @@
 //! The parts of a run of blocks, one for each extent that it meets, without memory.
 
 ghost use Rattle.std.specs.Prelude.{◌≡◌, ◌<◌, ◌≤◌, ◌↔◌, IsTrue, [], ◌∷◌, ◌++◌, length, slice_get};
+ghost use Rattle.nv_ns.specs.Extents.{most_extents};
 
 use crate::part::Part;
 use crate::several::Several;
@@ -56,7 +57,7 @@ impl Parts {
 
     /// Adds a part after the others, of which there are fewer than eight.
     pub fn push(&mut self, part: Part)
-        requires { length self.old < 8 }
+        requires { length self.old < most_extents }
         ensures { self.new ≡ self.old ++ part ∷ [] }
     {
         match &mut self.kept {
@@ -69,7 +70,7 @@ impl Parts {
     /// The parts as a slice, in order.
     pub fn as_slice(&self) -> &[Part]
         ensures items { result.now ≡ self.now }
-        ensures few { length self.now ≤ 8 }
+        ensures few { length self.now ≤ most_extents }
     {
         match &self.kept {
             Kept::None => &[],
@@ -81,7 +82,7 @@ impl Parts {
     /// How many there are.
     pub fn len(&self) -> usize
         ensures value { result ≡ length self.now }
-        ensures few { length self.now ≤ 8 }
+        ensures few { length self.now ≤ most_extents }
     {
         self.as_slice().len()
     }

@@ -1,6 +1,7 @@
 //! Up to eight parts in place.
 
 ghost use Rattle.std.specs.Prelude.{◌≡◌, ◌<◌, ◌≤◌, [], ◌∷◌, ◌++◌, length};
+ghost use Rattle.nv_ns.specs.Extents.{most_extents};
 
 use crate::part::Part;
 use crate::virtual_ns::MOST_EXTENTS;
@@ -45,7 +46,7 @@ impl Several {
 
     /// Adds a part after the others.
     pub fn push(&mut self, part: Part)
-        requires { length self.old < 8 }
+        requires { length self.old < most_extents }
         ensures { self.new ≡ self.old ++ part ∷ [] }
     {
         self.parts[self.len] = part;
@@ -55,7 +56,7 @@ impl Several {
     /// The parts as a slice, in order.
     pub fn as_slice(&self) -> &[Part]
         ensures items { result.now ≡ self.now }
-        ensures few { length self.now ≤ 8 }
+        ensures few { length self.now ≤ most_extents }
     {
         &self.parts[..self.len]
     }

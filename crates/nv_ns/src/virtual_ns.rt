@@ -2,7 +2,7 @@
 
 ghost use Rattle.std.specs.Prelude.{◌≡◌, ◌<◌, ◌≤◌, ◌↔◌, IsTrue, SomeIff, [], ◌∷◌, ◌++◌, length, slice_get};
 ghost use Rattle.nv_ns.specs.BlockRange.{InNamespace, in_namespace};
-ghost use Rattle.nv_ns.specs.Extents.{blocks_in, cut_out, cuts, is_namespace};
+ghost use Rattle.nv_ns.specs.Extents.{blocks_in, cut_out, cuts, is_namespace, most_extents};
 
 use crate::extent::Extent;
 use crate::part::Part;
@@ -94,7 +94,7 @@ impl VirtualNs {
     pub fn len(&self) -> usize
         ensures value { result ≡ length self.now }
         ensures some { 0 < length self.now }
-        ensures few { length self.now ≤ 8 }
+        ensures few { length self.now ≤ most_extents }
     {
         self.len
     }

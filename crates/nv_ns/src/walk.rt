@@ -2,7 +2,7 @@
 
 ghost use Rattle.std.specs.Prelude.{◌≡◌, ◌^◌, ◌<◌, ◌≤◌, length};
 ghost use Rattle.std.specs.List.{list_all};
-ghost use Rattle.nv_ns.specs.Extents.{blocks_in, cuts, is_within};
+ghost use Rattle.nv_ns.specs.Extents.{blocks_in, cuts, is_within, most_extents};
 
 use crate::extent::Extent;
 use crate::part::Part;
@@ -20,7 +20,7 @@ pub fn all_within(extents: &[Extent], blocks: u64) -> bool
 /// The parts of a run of `count` blocks from block `slba` of the namespace of these extents.
 #[inline(never)]
 pub fn parts_of(extents: &[Extent], slba: u64, count: u64) -> Parts
-    requires few { length extents.now ≤ 8 }
+    requires few { length extents.now ≤ most_extents }
     requires fit { blocks_in extents.now < 2 ^ 64 }
     ensures { result ≡ cuts extents.now slba count }
 {

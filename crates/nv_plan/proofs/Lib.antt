@@ -14,6 +14,5 @@ pub mod Resumed
 pub mod PlanFollows
 pub mod MadeShares
 pub mod OwnParts
-pub mod SourceRuns
 pub mod PartLaws
 pub mod RangesLie

@@ -11,8 +11,7 @@ use Rattle.nv_entry.specs.Submission.{slba_of}
 use Rattle.nv_mem.specs.declared.region.Region.{Region}
 use Rattle.nv_ns.specs.Extents.{Cut, Namespace, Placed, blocks_in, cuts, is_namespace, placed}
 use Rattle.nv_ns.specs.Laws.{NamesBlocks}
-use Rattle.nv_ns.proofs.CutWalk.{cuts-walk}
-use Rattle.nv_ns.proofs.Spelled.{walk-names, walk-some}
+use Rattle.nv_ns.proofs.Spelled.{cuts-name, cuts-some}
 use Rattle.nv_model.specs.Endings.{MayEndIn}
 use Rattle.nv_model.specs.Judge.{Clear, Form, Go, Keep, Manage, Refuse, Transfer, Verdict, Work, count_of, form_has_blocks, form_of, judge}
 use Rattle.nv_model.specs.Transcript.{Outcome as Come, Settled as Ended, Wanted as Asked, in_transcript}
@@ -206,13 +205,11 @@ All-at P (y ∷ xs) (suc k) x each is = All-at P xs k x (All-tail P y xs each) i
 
 pub cut-names : (ns : Namespace) (slba count part : ℕ) (cut : Cut) → slice_get (cuts ns slba count) part ≡ Some cut → NamesBlocks ns slba count cut
 cut-names ns slba count part cut is =
-    All-at (NamesBlocks ns slba count) (cuts ns slba count) part cut
-    (subst (All (NamesBlocks ns slba count)) (sym (cuts-walk ns slba count)) (walk-names ns slba count)) is
+    All-at (NamesBlocks ns slba count) (cuts ns slba count) part cut (cuts-name ns slba count) is
 
 pub cut-some : (ns : Namespace) (slba count part : ℕ) (cut : Cut) → slice_get (cuts ns slba count) part ≡ Some cut → 0 < cut.count
 cut-some ns slba count part cut is =
-    All-at (λ (c : Cut). 0 < c.count) (cuts ns slba count) part cut
-    (subst (All (λ (c : Cut). 0 < c.count)) (sym (cuts-walk ns slba count)) (walk-some 0 ns slba count)) is
+    All-at (λ (c : Cut). 0 < c.count) (cuts ns slba count) part cut (cuts-some ns slba count) is
 
 -- ---- its kind
 

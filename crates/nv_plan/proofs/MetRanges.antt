@@ -5,11 +5,10 @@ use Rattle.std.proofs.Common.{Option, Some, None, drop, length, map, slice_get, 
 use Rattle.std.specs.List.{cons_option, enumerate_from, list_all}
 use Rattle.std.specs.Option.{option_map, option_to_list}
 use Rattle.std.proofs.lemmas.Bool.{cases_eq, ne_eqb}
-use Rattle.std.proofs.lemmas.List.{length-append, length-map, map-append}
+use Rattle.std.proofs.lemmas.List.{drop_all, length-append, length-map, map-append}
 use Rattle.std.proofs.lemmas.Bool.Decides.{nat_tests}
-use Rattle.byteorder.specs.Numbers.{little_number-reads_back}
-use Rattle.nv_entry.specs.Layout.{dword, number_at, number_bytes, qword}
-use Rattle.nv_entry.specs.Range.{attributes_of, blocks_of, start_of}
+use Rattle.nv_entry.specs.Layout.{number_bytes}
+use Rattle.nv_entry.specs.Range.{blocks_of, start_of}
 use Rattle.nv_judge.proofs.RangeLemmas.{both-fit, ranges_in-more, ranges_in-none}
 use Rattle.nv_model.specs.Judge.{range_fits, ranges_in}
 use Rattle.nv_ns.specs.BlockRange.{Extent}
@@ -19,6 +18,7 @@ use Rattle.nv_ns.proofs.Spelled.{place_in-beyond, place_in-here}
 use Rattle.nv_world_model.specs.Area.{first_base, range_place, translated_range}
 use Rattle.nv_world_model.specs.Share.{cut_range, range_in, ranges_met}
 use Rattle.nv_world_model.proofs.OneExtent.{cut_range-all}
+use Rattle.nv_world_model.proofs.RangeCuts.{bytes-blocks, bytes-start, cut_bytes, ranges_met-few}
 use Rattle.nv_plan.specs.Outline.{Portion}
 use Rattle.nv_plan.specs.Runs.{AreEnds, runs}
 use Rattle.nv_plan.specs.Told.{of_ranges, portion_met}
@@ -69,18 +69,6 @@ first-within [] kept = grind (arith, nat_tests)
 first-within (extent ∷ rest) kept = grind (arith, nat_tests)
 
 -- ---- a range on the disk
-
--- the bytes of what is cut out of a range
-abbrev cut_bytes : (range : List ℕ) → Cut → List ℕ
-cut_bytes range cut = number_bytes 4 (attributes_of range) ++ number_bytes 4 cut.count ++ number_bytes 8 (start_of range + cut.first)
-
-bytes-blocks : (range : List ℕ) (cut : Cut) → cut.count < 2 ^ 32 → blocks_of (cut_bytes range cut) ≡ cut.count
-unfolding dword number_at
-bytes-blocks range cut fits = little_number-reads_back 4 cut.count (number_bytes 8 (start_of range + cut.first)) fits
-
-bytes-start : (range : List ℕ) (cut : Cut) → start_of range + cut.first < 2 ^ 64 → start_of (cut_bytes range cut) ≡ start_of range + cut.first
-unfolding qword number_at
-bytes-start range cut fits = little_number-reads_back 8 (start_of range + cut.first) [] fits
 
 -- the bytes of a range on the disk
 abbrev pub disk_bytes : (start blocks : ℕ) → List ℕ
@@ -279,27 +267,9 @@ pub AreMet-end : (ns : Namespace) (ranges : List (List ℕ)) (number before : �
     → length ns ≤ number → portions ≡ portions_from ns ranges 0 (placed 0 ns)
 AreMet-end ns ranges number before portions so_far ended =
     sym (append-nil portions)
-    ∙ sym (ap (λ (xs : Namespace). portions ++ portions_from ns ranges number (placed before xs)) (drop-past ns number ended)) ∙ so_far.goes
-  where
-    drop-past : (xs : Namespace) (n : ℕ) → length xs ≤ n → drop n xs ≡ []
-    drop-past [] zero past = refl
-    drop-past [] (suc n) past = refl
-    drop-past (x ∷ xs) zero past = absurd (omega arith)
-    drop-past (x ∷ xs) (suc n) past = drop-past xs n (omega arith)
+    ∙ sym (ap (λ (xs : Namespace). portions ++ portions_from ns ranges number (placed before xs)) (drop_all number ns ended)) ∙ so_far.goes
 
 -- ---- in one list
-
--- an extent has no more ranges than there are
-met-few : (number : ℕ) (at : Placed) (ranges : List (List ℕ)) → length (ranges_met number at ranges) ≤ length ranges
-met-few number at [] = omega arith
-met-few number at (range ∷ ranges) =
-    let on = met-few number at ranges in
-    by_range (range_in number at range) on
-  where
-    by_range : (o : Option (List ℕ)) → length (ranges_met number at ranges) ≤ length ranges
-        → length (cons_option o (ranges_met number at ranges)) ≤ suc (length ranges)
-    by_range None on = omega arith
-    by_range (Some met) on = omega arith
 
 -- what a loop over the extents keeps of their list: it has the ranges of the first extents, and where those of each end
 pub record AreListed (ns : Namespace) (ranges : List (List ℕ)) (number before : ℕ) (items : List (List ℕ)) (ends : List ℕ) : Type 0 where
@@ -320,7 +290,7 @@ pub AreListed-short : (ns : Namespace) (ranges : List (List ℕ)) (number before
     → next ≡ listed_next ns ranges number before extent items → length next ≤ (number + 1) * 256
 AreListed-short ns ranges number before items ends extent next so_far few grown =
     let met : List (List ℕ) = ranges_met number (record { before = before; extent = extent }) ranges in
-    let more = met-few number (record { before = before; extent = extent }) ranges in
+    let more = ranges_met-few number (record { before = before; extent = extent }) ranges in
     let len = ap (λ (rs : List (List ℕ)). length rs) grown ∙ length-append items (map (translated_range ns) met) in
     let same = length-map met (translated_range ns) in
     let short = so_far.short in omega arith

@@ -1,11 +1,8 @@
 -- What each part of a made plan is of the whole: its blocks, its bytes and its ranges.
-use Rattle.std.proofs.Common.{◌≡◌, ℕ, zero, suc, ◌+◌, ◌-◌, ◌*◌, ◌<◌, ◌≤◌, min, Bool, true, false, ◌&&◌, cond, List, [], ◌∷◌, ◌++◌, length, slice_get}
-use Rattle.std.proofs.Common.{Option, Some, None, drop, refl, ap, sym, subst, ◌∙◌, arith}
-use Rattle.std.specs.List.{All, cons_option, filter, range_with_len}
-use Rattle.std.specs.Option.{option_map}
+use Rattle.std.proofs.Common.{◌≡◌, ℕ, zero, suc, ◌+◌, ◌-◌, ◌*◌, ◌<◌, ◌≤◌, Bool, true, false, cond, List, [], ◌∷◌, ◌++◌, length, slice_get}
+use Rattle.std.proofs.Common.{Option, Some, None, refl, ap, sym, subst, ◌∙◌, arith}
+use Rattle.std.specs.List.{filter}
 use Rattle.std.proofs.lemmas.Bool.Decides.{nat_tests}
-use Rattle.std.proofs.lemmas.List.{length-drop, length-map, length-take, length-take-le}
-use Rattle.std.proofs.lemmas.List.Elements.{All-cons, All-head, All-nil, All-tail}
 use Rattle.nv_entry.specs.Opcode.{io_opcode}
 use Rattle.nv_entry.specs.Status.{StatusField}
 use Rattle.nv_entry.specs.Submission.{opcode_of, slba_of}
@@ -13,7 +10,7 @@ use Rattle.nv_entry.specs.declared.opcode.IoOpcode.{IoOpcode}
 use Rattle.nv_entry.specs.declared.opcode.IoOpcode.TheVariants as opcode
 use Rattle.nv_entry.specs.declared.status_code.StatusCode.{StatusCode}
 use Rattle.nv_judge.proofs.FieldLemmas.{count-at_most}
-use Rattle.nv_mem.specs.GuestMap.{everywhere, mapped}
+use Rattle.nv_mem.specs.GuestMap.{mapped}
 use Rattle.nv_mem.specs.Places.{Place, piece_len, places_of, places_of_piece, total_len}
 use Rattle.nv_mem.specs.declared.piece.Piece.{Piece}
 use Rattle.nv_mem.specs.declared.piece.Piece.TheVariants as piece
@@ -23,77 +20,28 @@ use Rattle.nv_ns.specs.BlockRange.{in_namespace}
 use Rattle.nv_ns.proofs.Ranges.{in_namespace-true}
 use Rattle.nv_ns.specs.Extents.{Cut, Namespace, Placed, blocks_in, cuts, place_in, placed}
 use Rattle.nv_model.specs.Endings.{MayEndIn}
-use Rattle.nv_model.specs.Judge.{ClearBlock, Clear, Form, Go, KeepAll, Keep, LeaveBlock, Manage, MoveBlock, Refuse, Transfer, Work, WorkUnit}
-use Rattle.nv_model.specs.Judge.{clear_units, count_of, field_refusal, form_has_blocks, form_of, form_transfer_len, form_units, has_blocks, has_buffer}
-use Rattle.nv_model.specs.Judge.{is_fua, judge, move_units}
-use Rattle.nv_model.specs.Laws.{IsMappedPiece}
+use Rattle.nv_model.specs.Judge.{Clear, Form, Go, Keep, Manage, Refuse, Transfer, Work}
+use Rattle.nv_model.specs.Judge.{count_of, field_refusal, form_has_blocks, form_of, form_transfer_len, form_units, has_blocks, has_buffer}
+use Rattle.nv_model.specs.Judge.{is_fua, judge}
 use Rattle.nv_model.proofs.InParts.{ranges-short}
 use Rattle.nv_model.proofs.JudgeCases.{judge-refused}
-use Rattle.nv_model.proofs.Judged.{IsSoundWork, everywhere-at}
-use Rattle.nv_model.proofs.RunPieces.{IsRunPiece}
-use Rattle.nv_model.proofs.Units.{clear_units-at, length-clear_units, length-move_units, move_units-at}
+use Rattle.nv_model.proofs.Judged.{IsSoundWork}
 use Rattle.nv_prp.specs.Fits.{places_fit}
 use Rattle.nv_world_model.specs.Geometry.{Guest, regions_of, shape_of}
 use Rattle.nv_world_model.specs.Plan.{Answer, Bounced, Direct, NoData, Plan, go_plan, transfer_plan}
 use Rattle.nv_world_model.specs.Seat.{work_of}
-use Rattle.nv_world_model.specs.Share.{Share, cut_piece, cut_pieces, numbers_met, range_in, ranges_met, shares_by, unit_behind, units_at, with_work}
-use Rattle.nv_world_model.specs.ShareArea.{first_lba, unit_lba}
-use Rattle.nv_world_model.proofs.CutPieces.{places_of-cut_pieces}
+use Rattle.nv_world_model.specs.Share.{Share, cut_pieces, numbers_met, ranges_met, shares_by, units_at, with_work}
+use Rattle.nv_world_model.specs.ShareArea.{first_lba}
+use Rattle.nv_world_model.proofs.CutPieces.{cut-total}
 use Rattle.nv_world_model.proofs.OneExtent.{IsRun, IsRun-clear, IsRun-transfer}
+use Rattle.nv_world_model.proofs.RangeCuts.{ranges_met-few}
 use Rattle.nv_world_model.proofs.ShareParts.{run_work}
-use Rattle.nv_world_model.proofs.ShareUnits.{units_at-range}
-use Rattle.nv_world_model.proofs.Windows.{window}
+use Rattle.nv_world_model.proofs.ShareUnits.{IsFrom, clears-from, moves-from, units_at-lba, units-size}
 use Rattle.nv_plan.specs.Made.{IsJobsPlan, MadePlan, plan_made, share_made, shares_made}
 use Rattle.nv_plan.specs.Parts.{form_places, form_ranges, has_bytes, len_in, places_in, ranges_of}
 use Rattle.nv_plan.proofs.MadeShares.{IsGoing, cut-names, cut-some, each-share, made-part, work-go}
 
--- ---- pieces that are cut
-
-pub cut-total : (skip len : ℕ) (pieces : List Piece) → total_len (cut_pieces skip len pieces) ≡ min len (total_len pieces - skip)
-cut-total skip len pieces =
-    let size = length-places_of pieces in
-    let own = length-places_of (cut_pieces skip len pieces) in
-    let taken = length-take len (drop skip (places_of pieces)) in
-    let dropped = length-drop skip (places_of pieces) in
-    let same = ap length (places_of-cut_pieces skip len pieces) in
-    omega (arith, size, own, taken, dropped, same)
-
-both : (a b : Bool) → a ≡ true → b ≡ true → (a && b) ≡ true
-both a b first second = cc
-
-everywhere-from : (test : ℕ → Bool) (addr len : ℕ) → ((i : ℕ) → i < len → test (addr + i) ≡ true) → everywhere test addr len ≡ true
-unfolding everywhere
-everywhere-from test addr zero each = refl
-everywhere-from test addr (suc len) each =
-    both (test (addr + len)) (everywhere test addr len) (each len (omega arith))
-    (everywhere-from test addr len (λ i below. each i (omega (arith, below))))
-
-cut-mapped : (test : ℕ → Bool) (skip len : ℕ) (p : Piece) → IsMappedPiece test p → IsMappedPiece test (cut_piece skip len p)
-cut-mapped test skip len (piece.Run addr bytes) is =
-    everywhere-from test (addr + skip) (min len (bytes - skip)) (λ i below.
-    (let at : addr + skip + i ≡ addr + (skip + i) = omega arith in
-    ap test at ∙ everywhere-at test addr bytes (skip + i) is (omega (arith, below))))
-cut-mapped test skip len (piece.Bucket bytes) is = tt
-
-cut-run : (skip len : ℕ) (p : Piece) → IsRunPiece p → IsRunPiece (cut_piece skip len p)
-unfolding IsRunPiece
-cut-run skip len (piece.Run addr bytes) is = tt
-cut-run skip len (piece.Bucket bytes) is = absurd is
-
--- what is kept of each piece is kept of all
-all-cut : (P : Piece → Type 0) → ((skip len : ℕ) (p : Piece) → P p → P (cut_piece skip len p)) → (skip len : ℕ) (pieces : List Piece)
-    → All P pieces → All P (cut_pieces skip len pieces)
-all-cut P kept skip len [] each = All-nil P
-all-cut P kept skip len (p ∷ ps) each =
-    All-cons P (cut_piece skip len p) (cut_pieces (skip - piece_len p) (len - (piece_len p - skip)) ps) (kept skip len p (All-head P p ps each))
-    (all-cut P kept (skip - piece_len p) (len - (piece_len p - skip)) ps (All-tail P p ps each))
-
-pub cut_pieces-mapped : (test : ℕ → Bool) (skip len : ℕ) (pieces : List Piece) → All (IsMappedPiece test) pieces
-    → All (IsMappedPiece test) (cut_pieces skip len pieces)
-cut_pieces-mapped test skip len pieces each = all-cut (IsMappedPiece test) (cut-mapped test) skip len pieces each
-
-pub cut_pieces-runs : (skip len : ℕ) (pieces : List Piece) → All IsRunPiece pieces → All IsRunPiece (cut_pieces skip len pieces)
-cut_pieces-runs skip len pieces each = all-cut IsRunPiece cut-run skip len pieces each
+-- ---- pieces that have bytes
 
 -- pieces without bytes name no places
 no-places : (places : List Place) → length places ≡ 0 → places ≡ []
@@ -117,47 +65,6 @@ filter-places (p ∷ ps) = filter-place p ps (filter-places ps)
 
 pub filter-total : (pieces : List Piece) → total_len (filter has_bytes pieces) ≡ total_len pieces
 filter-total pieces = sym (length-places_of (filter has_bytes pieces)) ∙ ap length (filter-places pieces) ∙ length-places_of pieces
-
--- ---- units that are cut
-
--- units of blocks in a row
-record IsFrom (slba count : ℕ) (units : List WorkUnit) : Type 0 where
-  size : length units ≡ count
-  at : (k : ℕ) → k < count → (unit : WorkUnit) × ((slice_get units k ≡ Some unit) × (unit_lba unit ≡ slba + k))
-
-moves-from : (slba count : ℕ) (units : List WorkUnit) → units ≡ move_units (range_with_len slba count) → IsFrom slba count units
-moves-from slba count units is =
-    record {
-      size = ap length is ∙ length-move_units slba count;
-      at = (λ k below. (MoveBlock k (slba + k), (ap (λ us. slice_get us k) is ∙ move_units-at slba count k below, refl)));
-    }
-
-clears-from : (mark : Bool) (slba count : ℕ) (units : List WorkUnit) → units ≡ clear_units mark (range_with_len slba count)
-    → IsFrom slba count units
-clears-from mark slba count units is =
-    record {
-      size = ap length is ∙ length-clear_units mark slba count;
-      at = (λ k below. (ClearBlock (slba + k) mark, (ap (λ us. slice_get us k) is ∙ clear_units-at mark slba count k below, refl)));
-    }
-
-lba-behind : (first : ℕ) (unit : WorkUnit) → unit_lba (unit_behind first unit) ≡ unit_lba unit
-lba-behind first (MoveBlock index lba) = refl
-lba-behind first (ClearBlock lba mark) = refl
-lba-behind first (LeaveBlock lba) = refl
-lba-behind first (KeepAll blocks) = refl
-
-run-size : (first count : ℕ) (units : List WorkUnit) → first + count ≤ length units → length (units_at first units (range_with_len first count)) ≡ count
-run-size first count units within =
-    let rest = length-drop first units in
-    ap length (units_at-range first units first count within) ∙ length-map (window first count units) (unit_behind first)
-    ∙ length-take-le count (drop first units) (omega (arith, rest, within))
-
-run-lba : (first count lba : ℕ) (units : List WorkUnit) (unit : WorkUnit) → 0 < count → slice_get units first ≡ Some unit → unit_lba unit ≡ lba
-    → first_lba (units_at first units (range_with_len first count)) ≡ lba
-run-lba first zero lba units unit some there is = absurd (omega (arith, some))
-run-lba first (suc count) lba units unit some there is =
-    ap (λ o. first_lba (cons_option (option_map (unit_behind first) o) (units_at first units (range_with_len (first + 1) count)))) there
-    ∙ lba-behind first unit ∙ is
 
 -- ---- what a part is
 
@@ -212,13 +119,13 @@ cut-part form ns entry work part cut has units there =
     record {
       cut = cut;
       there = there;
-      size = run-size cut.first cut.count work.units (omega (arith, within, all));
+      size = units-size cut.first cut.count work.units (omega (arith, within, all));
       some = some;
       within = within;
       place =
           (let none : slba_of entry + cut.first ≡ slba_of entry + (cut.first + 0) = omega arith in
           let start : cut.start + 0 ≡ cut.start = omega arith in
-          ap (place_in ns) (run-lba cut.first cut.count (slba_of entry + cut.first) work.units head.0 some head.1.0 head.1.1 ∙ none)
+          ap (place_in ns) (units_at-lba cut.first cut.count (slba_of entry + cut.first) work.units head.0 some head.1.0 head.1.1 ∙ none)
           ∙ names.1 0 some ∙ start);
       pieces = refl;
     }
@@ -400,23 +307,13 @@ cut-len given entry plan work own part dest goes form c =
     let some = c.some in
     record { total = omega (arith, bytes, all, size, within); some = omega arith; most = omega arith }
 
--- ranges that are met are no more than there are
-met-few : (number : ℕ) (at : Placed) (ranges : List (List ℕ)) → length (ranges_met number at ranges) ≤ length ranges
-met-few number at [] = omega arith
-met-few number at (range ∷ rest) = one (range_in number at range) (met-few number at rest)
-  where
-    one : (o : Option (List ℕ)) → length (ranges_met number at rest) ≤ length rest
-        → length (cons_option o (ranges_met number at rest)) ≤ length (range ∷ rest)
-    one None few = omega (arith, few)
-    one (Some part) few = omega (arith, few)
-
 pub met-len : (given : Guest) (entry : List ℕ) (plan : Plan) (work own : Work) (part : ℕ) → IsGoing given entry plan work
     → form_of work.opcode ≡ Manage → IsMetPart given.namespace work part own
     → (total_len own.pieces ≡ 16 * length own.ranges) × (16 * length own.ranges ≤ 4096)
 met-len given entry plan work own part goes form c =
     let bytes = goes.sound.total ∙ ap (λ (f : Form). form_transfer_len f entry) form in
     let counted = goes.sound.counted form in
-    let few = met-few part c.at work.ranges in
+    let few = ranges_met-few part c.at work.ranges in
     let same = ap (λ (rs : List (List ℕ)). length rs) c.ranges in
     let all = ap total_len c.pieces ∙ cut-total 0 (16 * length own.ranges) work.pieces in
     let short = ranges-short entry in

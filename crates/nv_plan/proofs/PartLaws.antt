@@ -29,12 +29,13 @@ use Rattle.nv_world_model.specs.Plan.{Bounced, Direct, Plan, go_plan, transfer_p
 use Rattle.nv_world_model.specs.Seat.{work_of}
 use Rattle.nv_world_model.specs.Share.{Share, cut_pieces, with_work}
 use Rattle.nv_world_model.proofs.CutFits.{cut_pieces-fit}
+use Rattle.nv_world_model.proofs.CutPieces.{cut_pieces-mapped, cut_pieces-runs}
 use Rattle.nv_plan.specs.Made.{IsJobsPlan, MadePlan, plan_made, share_made}
 use Rattle.nv_plan.specs.Parts.{form_places, form_ranges, has_bytes, len_in, places_in, ranges_of}
 use Rattle.nv_plan.proofs.MadeShares.{made-going, work-go}
-use Rattle.nv_plan.proofs.OwnParts.{HasLen, IsCutPart, IsMadePart, OwnBy, cut-len, cut_pieces-mapped, cut_pieces-runs, filter-places, filter-total, form_len}
+use Rattle.nv_plan.proofs.OwnParts.{HasLen, IsCutPart, IsMadePart, OwnBy, cut-len, filter-places, filter-total, form_len}
 use Rattle.nv_plan.proofs.OwnParts.{going-short, made-own, met-len, own-work, part-len, part-places, part-ranges, work-with}
-use Rattle.nv_plan.proofs.SourceRuns.{source-runs}
+use Rattle.nv_model.proofs.SourceRuns.{source-runs}
 
 both : (a b : Bool) → a ≡ true → b ≡ true → (a && b) ≡ true
 both a b first second = cc

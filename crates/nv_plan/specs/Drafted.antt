@@ -1,18 +1,17 @@
 -- Words of private functions: a command whose lists are being read, what is still to be read of them, and what comes next.
 use Rattle.std.specs.Prelude.{◌≡◌, ◌≤◌, ◌+◌, ◌*◌, ℕ, All, true, false, List, [], ◌∷◌, ◌++◌, Some, None, drop, length}
 use Rattle.std.specs.Bool.{⊤}
-use Rattle.nv_entry.specs.Opcode.{io_opcode}
-use Rattle.nv_entry.specs.Submission.{opcode_of}
 use Rattle.nv_entry.specs.declared.opcode.IoOpcode.{IoOpcode}
 use Rattle.nv_entry.specs.declared.opcode.IoOpcode.TheVariants as opcode
-use Rattle.nv_judge.specs.Need.{need_of}
+use Rattle.nv_judge.specs.Need.{HasFieldsInOrder, need_of}
 use Rattle.nv_judge.specs.declared.need.Need.{Need}
 use Rattle.nv_mem.specs.GuestMap.{mapped}
 use Rattle.nv_mem.specs.Places.{total_len}
 use Rattle.nv_mem.specs.declared.piece.Piece.{Piece}
 use Rattle.nv_mem.specs.declared.piece.Piece.TheVariants as piece
 use Rattle.nv_model.specs.Dialogue.{Dialogue, End, and_then}
-use Rattle.nv_model.specs.Judge.{Go, Refuse, Verdict, field_refusal, has_buffer, judge, judge_ranges, judge_reading, range_count_of, ranges_in, read_source, work_of}
+use Rattle.nv_model.specs.Judge.{Go, Refuse, Verdict, has_buffer, judge, judge_ranges, judge_reading, range_count_of, ranges_in, read_source, work_of}
+use Rattle.nv_model.specs.Limits.{range_size}
 use Rattle.nv_model.specs.Reading.{Reading, Spells}
 use Rattle.nv_model.specs.Transcript.{ReadDone, Settled, first_read, in_transcript}
 use Rattle.nv_model.specs.Want.{want_of}
@@ -136,10 +135,8 @@ IsSpelledBy (stage.Ranges source) pieces = ⊥
 -- ---- what is kept of each
 
 -- the fields of a command with that opcode are in order, and it needs this
-pub record IsKnown (given : Guest) (entry : List ℕ) (opcode : IoOpcode) (need : Need) : Type 0 where
-  pub unrefused : field_refusal (blocks_in given.namespace) entry ≡ None
-  pub known : io_opcode (opcode_of entry) ≡ Some opcode
-  pub needs : need ≡ need_of entry opcode
+abbrev pub IsKnown : Guest → (entry : List ℕ) → IoOpcode → Need → Type 0
+IsKnown given entry opcode need = HasFieldsInOrder (blocks_in given.namespace) entry opcode need
 
 -- a list of a command with a buffer, of which this is still to be read
 pub record IsListed (given : Guest) (entry : List ℕ) (b : Buffered) (d : Dialogue Reading) : Type 0 where
@@ -154,7 +151,7 @@ pub record IsSource (given : Guest) (entry : List ℕ) (source : Source) : Type 
   pub known : IsKnown given entry opcode.DatasetManagement (need_of entry opcode.DatasetManagement)
   pub short : total_len (left_of source) ≤ 4096
   pub runs : All IsRunPiece (left_of source)
-  pub many : length source.bytes.items + total_len (left_of source) ≡ 16 * range_count_of entry
+  pub many : length source.bytes.items + total_len (left_of source) ≡ range_size * range_count_of entry
 
 abbrev pub IsSoundStage : {A : Type 0} → Guest → List ℕ → Stage A → Type 0
 IsSoundStage given entry (stage.Refused st) = ⊤

@@ -2,7 +2,7 @@
 
 ghost use Rattle.std.specs.Prelude.{◌≡◌, ◌+◌, ◌-◌, ◌<◌, ◌≤◌, ◌^◌, ◌++◌, All, IfOk, OnOk, length, map};
 ghost use Rattle.nv_mem.specs.Places.{piece_len};
-ghost use Rattle.nv_ns.specs.Extents.{Cut};
+ghost use Rattle.nv_ns.specs.Extents.{Cut, most_extents};
 ghost use Rattle.nv_plan.specs.Told.{IsAddressed, cut_places, portion_cut};
 ghost use Rattle.nv_world_model.specs.Share.{cut_piece};
 
@@ -15,7 +15,7 @@ use std::alloc::Global;
 
 /// What each part of a transfer's blocks has of its places. It takes two blocks of memory.
 pub(crate) fn cut_up(alloc: Global, pieces: &[Piece], parts: &[Part]) -> Result<Portions, NoMemory>
-    requires few { length parts.now ≤ 8 }
+    requires few { length parts.now ≤ most_extents }
     requires small { All (λ (cut : Cut). cut.first + cut.count ≤ 2 ^ 16) parts.now }
     requires addressed { All IsAddressed pieces.now }
     ensures { IfOk result (λ portions. portions ≡ map (portion_cut pieces.now) parts.now) }

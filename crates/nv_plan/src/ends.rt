@@ -1,6 +1,7 @@
 //! Where the parts of a list end.
 
 ghost use Rattle.std.specs.Prelude.{◌≡◌, ◌<◌, ◌≤◌, [], ◌∷◌, ◌++◌, Some, length, slice_get, slice_range};
+ghost use Rattle.nv_ns.specs.Extents.{most_extents};
 ghost use Rattle.nv_plan.specs.Runs.{AreEnds, begin_of, runs};
 
 use std::marker::Model;
@@ -14,12 +15,13 @@ pub(crate) struct Ends {
 
 impl Model for Ends {
     ghost use Rattle.std.specs.Prelude.{◌≤◌, ℕ, List, take};
+    ghost use Rattle.nv_ns.specs.Extents.{most_extents};
 
     ghost Value = { List ℕ };
 
     ghost view = { λ e. take e.len e.ends };
 
-    ghost invariant = { λ e. e.len ≤ 8 };
+    ghost invariant = { λ e. e.len ≤ most_extents };
 }
 
 impl Ends {
@@ -35,7 +37,7 @@ impl Ends {
 
     /// Adds a part after the others, of which there are fewer than eight.
     pub(crate) fn push(&mut self, end: u32)
-        requires { length self.old < 8 }
+        requires { length self.old < most_extents }
         ensures { self.new ≡ self.old ++ end ∷ [] }
     {
         self.ends[usize::from(self.len)] = end;

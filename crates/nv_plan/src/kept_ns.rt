@@ -4,7 +4,7 @@ ghost use Rattle.std.specs.Prelude.{◌≡◌, ◌<◌, ◌≤◌, ◌^◌, IfOk
 ghost use Rattle.nv_entry.specs.Submission.{slba_of};
 ghost use Rattle.nv_model.specs.Judge.{count_of};
 ghost use Rattle.nv_ns.specs.BlockRange.{in_namespace};
-ghost use Rattle.nv_ns.specs.Extents.{blocks_in, cuts};
+ghost use Rattle.nv_ns.specs.Extents.{blocks_in, cuts, most_extents};
 
 use crate::tags::parts_of;
 use nv_entry::Sqe;
@@ -64,7 +64,7 @@ impl KeptNs {
     pub(crate) fn len(&self) -> usize
         ensures value { result ≡ length self.now }
         ensures some { 0 < length self.now }
-        ensures few { length self.now ≤ 8 }
+        ensures few { length self.now ≤ most_extents }
     {
         match &self.extents {
             Extents::One(_) => 1,

@@ -11,7 +11,7 @@ ghost use Rattle.nv_model.specs.Laws.{IsMappedPiece};
 ghost use Rattle.nv_model.specs.Limits.{block, most_bytes, page, range_size};
 ghost use Rattle.nv_model.specs.Transcript.{ReadDone};
 ghost use Rattle.nv_model.proofs.RunPieces.{IsRunPiece};
-ghost use Rattle.nv_ns.specs.Extents.{blocks_in, is_namespace};
+ghost use Rattle.nv_ns.specs.Extents.{blocks_in, is_namespace, most_extents};
 ghost use Rattle.nv_prp.specs.Built.{built};
 ghost use Rattle.nv_prp.specs.Spelled.{HoldsList, SpellsAddresses, reading_of};
 ghost use Rattle.nv_prp.specs.Fits.{host_addresses, places_fit};
@@ -45,7 +45,7 @@ pub fn a_part_for_each_tag()
     ensures tags { (p : MadePlan) (work : Work) → IsJobsPlan p → work_of (plan_made p) ≡ Some work →
         length (shares_made p) ≡ tags_of_entry p.given.namespace p.job.sqe }
     ensures answer { (p : MadePlan) (st : StatusField) → plan_made p ≡ Answer st → shares_made p ≡ [] }
-    ensures most { (p : MadePlan) → IsJobsPlan p → IsTrue (is_namespace p.given.namespace) → length (shares_made p) ≤ 8 }
+    ensures most { (p : MadePlan) → IsJobsPlan p → IsTrue (is_namespace p.given.namespace) → length (shares_made p) ≤ most_extents }
 {}
 
 /// The places of a part are mapped, and name its bytes in their order; those of a source are runs. A part of a transfer of blocks has as

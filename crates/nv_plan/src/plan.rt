@@ -6,7 +6,7 @@ ghost use Rattle.nv_entry.specs.Submission.{opcode_of};
 ghost use Rattle.nv_entry.specs.declared.opcode.IoOpcode.{IoOpcode};
 ghost use Rattle.nv_model.specs.Judge.{Work, has_blocks};
 ghost use Rattle.nv_model.specs.Limits.{most_bytes};
-ghost use Rattle.nv_ns.specs.Extents.{place_in};
+ghost use Rattle.nv_ns.specs.Extents.{most_extents, place_in};
 ghost use Rattle.nv_plan.specs.Made.{IsJobsPlan, plan_made, share_made, shares_made};
 ghost use Rattle.nv_plan.specs.Outline.{kind_of};
 ghost use Rattle.nv_plan.specs.Parts.{len_in, places_in, ranges_of};
@@ -116,7 +116,7 @@ impl Plan {
     /// How many physical commands the command is: one for each share of its plan, and none where it is answered.
     pub fn parts(&self) -> u8
         ensures value { result ≡ length (shares_made self.now) }
-        ensures most { result ≤ 8 }
+        ensures most { result ≤ most_extents }
         ensures is_plan { IsJobsPlan self.now }
     {
         // A namespace has at most eight extents.

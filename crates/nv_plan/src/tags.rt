@@ -4,7 +4,7 @@ ghost use Rattle.std.specs.Prelude.{◌≡◌, ◌<◌, ◌≤◌, ◌^◌, leng
 ghost use Rattle.nv_entry.specs.Submission.{slba_of};
 ghost use Rattle.nv_model.specs.Judge.{count_of};
 ghost use Rattle.nv_ns.specs.BlockRange.{in_namespace};
-ghost use Rattle.nv_ns.specs.Extents.{blocks_in, cuts};
+ghost use Rattle.nv_ns.specs.Extents.{blocks_in, cuts, most_extents};
 ghost use Rattle.nv_world_model.specs.Share.{tags_of_entry};
 
 use nv_entry::{IoOpcode, Sqe};
@@ -15,7 +15,7 @@ use nv_ns::{Parts, VirtualNs};
 pub fn tags_wanted(sqe: &Sqe, ns: &VirtualNs) -> u8
     ensures value { result ≡ tags_of_entry ns.now sqe.now }
     ensures some { 0 < result }
-    ensures most { result ≤ 8 }
+    ensures most { result ≤ most_extents }
 {
     if ns.len() == 1 {
         return 1;
@@ -39,7 +39,7 @@ pub fn tags_wanted(sqe: &Sqe, ns: &VirtualNs) -> u8
 pub(crate) fn parts_of(sqe: &Sqe, ns: &VirtualNs) -> Parts
     requires { in_namespace (slba_of sqe.now) (count_of sqe.now) (blocks_in ns.now) ≡ true }
     ensures value { result ≡ cuts ns.now (slba_of sqe.now) (count_of sqe.now) }
-    ensures few { length result ≤ 8 }
+    ensures few { length result ≤ most_extents }
     ensures short { count_of sqe.now ≤ 2 ^ 16 }
 {
     match ns.translate(sqe.slba(), u64::from(sqe.nlb()) + 1) {

@@ -1,44 +1,23 @@
 -- Lemmas on host addresses that fit PRP.
-use Rattle.std.proofs.Common.{◌≡◌, ℕ, zero, suc, ◌+◌, ◌-◌, ◌%◌, ◌<◌, ◌≤◌, ◌^◌, Bool}
+use Rattle.std.proofs.Common.{◌≡◌, ℕ, zero, suc, ◌+◌, ◌-◌, ◌%◌, ◌<◌, ◌≤◌, Bool}
 use Rattle.std.proofs.Common.{true, false, ◌&&◌, ◌||◌, ◌==◌, List, [], ◌∷◌, ◌++◌, All, length, drop}
 use Rattle.std.proofs.Common.{get_or, replicate, Option, Some, None, is_some, option_to_list, arith, refl, sym, ap, ◌∙◌, append_assoc, length-append, eq-eqb}
-use Rattle.std.proofs.Common.{inl, inr}
 use Rattle.std.specs.List.{range_with_len, list_all}
-use Rattle.std.proofs.Math.Seq.{drop-cons}
-use Rattle.std.proofs.lemmas.Bool.{cases_lt}
 use Rattle.std.proofs.lemmas.Grind.{flat_map-append}
 use Rattle.std.proofs.lemmas.List.Elements.{All-head, All-tail}
 use Rattle.std.proofs.lemmas.List.Sums.{sum_by-cons}
-use Rattle.nv_mem.specs.GuestMap.{Mapping, IsSound, everywhere, host_of, mapped}
+use Rattle.nv_mem.specs.GuestMap.{everywhere, host_of, mapped}
 use Rattle.nv_mem.specs.MapRuns.{IsLongestRun}
 use Rattle.nv_mem.specs.Places.{Place, At, Bucket, addresses, piece_len, places_of, places_of_piece, total_len}
 use Rattle.nv_mem.specs.declared.piece.Piece.{Piece}
 use Rattle.nv_mem.specs.declared.piece.Piece.TheVariants as piece
 use Rattle.nv_mem.specs.declared.region.Region.{Region}
 use Rattle.nv_mem.proofs.Counts.{AllMapped-tested}
-use Rattle.nv_mem.proofs.PlaceLists.{length-places_of}
-use Rattle.nv_mem.proofs.Images.{host_of-high, IsContiguous-inside}
+use Rattle.nv_mem.proofs.PlaceLists.{length-places_of, pieces_from, pieces_from-past, total_len-from}
 use Rattle.nv_model.specs.Laws.{IsMappedPiece}
 use Rattle.nv_prp.specs.Fits.{fit_behind, host_address, host_addresses, hosts_of, is_run, may_follow, places_fit_behind}
 
 -- ---- host addresses of a run
-
--- an address of a run that is mapped has a host address
-pub mapped-none : (regions : List Region) (addr len i : ℕ) → everywhere (mapped regions) addr len ≡ true → i < len
-    → host_of regions (addr + i) ≡ None → ⊥
-mapped-none regions addr len i all below none =
-    let is : is_some (host_of regions (addr + i)) ≡ true = AllMapped-tested regions addr len all i below in
-    let not : is_some (host_of regions (addr + i)) ≡ is_some {T = ℕ} None = ap (λ (o : Option ℕ). is_some o) none in
-    cc
-
--- so it is below 2 to the 64
-pub mapped-below : (m : Mapping) (addr len i : ℕ) → IsSound m → everywhere (mapped m.regions) addr len ≡ true → i < len
-    → addr + i < 2 ^ 64
-mapped-below m addr len i sound all below =
-    elim (cases_lt (addr + i) (2 ^ 64)) [
-      | inl fits ↦ fits
-      | inr high ↦ absurd (mapped-none m.regions addr len i all below (host_of-high m.host_len m.regions (addr + i) sound.inside high))
-    ]
 
 -- addresses in a row in the host, and those behind them
 hosts_of-row : (regions : List Region) (addr host n m : ℕ)
@@ -69,21 +48,6 @@ pub hosts_of-append : (regions : List Region) (ps qs : List Place)
     → hosts_of regions (ps ++ qs) ≡ hosts_of regions ps ++ hosts_of regions qs
 unfolding hosts_of
 hosts_of-append regions ps qs = flat_map-append (host_address regions) ps qs
-
--- ---- lists
-
--- the pieces from an index on
-at_index : (pieces : List Piece) (i : ℕ) (d : Piece) → i < length pieces
-    → drop i pieces ≡ get_or pieces i d ∷ drop (i + 1) pieces
-at_index pieces i d below =
-    let next : suc i ≡ i + 1 = omega arith in
-    drop-cons pieces i d below ∙ ap (λ (k : ℕ). get_or pieces i d ∷ drop k pieces) next
-
-drop-past : (pieces : List Piece) (i : ℕ) → length pieces ≤ i → drop i pieces ≡ []
-drop-past [] zero past = refl
-drop-past [] (suc i) past = refl
-drop-past (p ∷ pieces) zero past = absurd (omega arith)
-drop-past (p ∷ pieces) (suc i) past = drop-past pieces i (omega arith)
 
 -- ---- what fits
 
@@ -136,12 +100,6 @@ pub hosts_of-none : (regions : List Region) (addr len : ℕ) (rest : List ℕ) �
 unfolding hosts_of addresses
 hosts_of-none regions addr len rest none = rw none refl
 
--- a run that is there ends in the host
-pub run-inside : (m : Mapping) (addr len host n : ℕ) → IsSound m → IsLongestRun m.regions addr len host n
-    → host + n ≤ m.host_len
-run-inside m addr len host n sound longest =
-    IsContiguous-inside m.host_len m.regions addr host n sound.inside longest.run
-
 -- ---- piece by piece
 
 -- a run, and the pieces behind it
@@ -151,7 +109,7 @@ pub places_fit-run : (regions : List Region) (old new : Option ℕ) (pieces : Li
     → places_fit_behind regions old (drop i pieces) ≡ (list_all is_run (drop (i + 1) pieces) && (fit && fit_behind new (host_addresses regions (drop (i + 1) pieces))))
 places_fit-run regions old new pieces i d addr len fit below is fits =
     let rest : List Piece = drop (i + 1) pieces in
-    ap (places_fit_behind regions old) (at_index pieces i d below ∙ ap (λ (p : Piece). p ∷ rest) is)
+    ap (places_fit_behind regions old) (pieces_from pieces i d below ∙ ap (λ (p : Piece). p ∷ rest) is)
     ∙ ap (λ (hs : List ℕ). list_all is_run rest && fit_behind old hs) (hosts_of-append regions (addresses addr len) (places_of rest))
     ∙ ap (λ (b : Bool). list_all is_run rest && b) (fits (host_addresses regions rest))
 
@@ -160,15 +118,14 @@ pub host_addresses-at : (regions : List Region) (pieces : List Piece) (i : ℕ) 
     → get_or pieces i d ≡ p
     → host_addresses regions (drop i pieces) ≡ hosts_of regions (places_of_piece p) ++ host_addresses regions (drop (i + 1) pieces)
 host_addresses-at regions pieces i d p below is =
-    ap (host_addresses regions) (at_index pieces i d below ∙ ap (λ (q : Piece). q ∷ drop (i + 1) pieces) is)
+    ap (host_addresses regions) (pieces_from pieces i d below ∙ ap (λ (q : Piece). q ∷ drop (i + 1) pieces) is)
     ∙ hosts_of-append regions (places_of_piece p) (places_of (drop (i + 1) pieces))
 
 -- its bytes, and those behind it
 pub total_len-at : (pieces : List Piece) (i : ℕ) (d p : Piece) → i < length pieces → get_or pieces i d ≡ p
     → total_len (drop i pieces) ≡ piece_len p + total_len (drop (i + 1) pieces)
 total_len-at pieces i d p below is =
-    ap total_len (at_index pieces i d below ∙ ap (λ (q : Piece). q ∷ drop (i + 1) pieces) is)
-    ∙ sum_by-cons piece_len p (drop (i + 1) pieces)
+    total_len-from pieces i d below ∙ ap (λ (q : Piece). piece_len q + total_len (drop (i + 1) pieces)) is
 
 -- there are no more host addresses than places
 host_address-one : (o : Option ℕ) → length (option_to_list o) ≤ 1
@@ -241,19 +198,19 @@ hosts_of-buckets regions (suc len) = hosts_of-buckets regions len
 pub host_addresses-none : (regions : List Region) (pieces : List Piece) (i : ℕ) → length pieces ≤ i
     → host_addresses regions (drop i pieces) ≡ []
 unfolding hosts_of
-host_addresses-none regions pieces i past = ap (host_addresses regions) (drop-past pieces i past)
+host_addresses-none regions pieces i past = ap (host_addresses regions) (pieces_from-past pieces i past)
 
 -- a bucket does not fit
 pub places_fit-bucket : (regions : List Region) (old : Option ℕ) (pieces : List Piece) (i : ℕ) (d : Piece) (len : ℕ)
     → i < length pieces → get_or pieces i d ≡ piece.Bucket len → places_fit_behind regions old (drop i pieces) ≡ false
 places_fit-bucket regions old pieces i d len below is =
-    ap (places_fit_behind regions old) (at_index pieces i d below ∙ ap (λ (p : Piece). p ∷ drop (i + 1) pieces) is)
+    ap (places_fit_behind regions old) (pieces_from pieces i d below ∙ ap (λ (p : Piece). p ∷ drop (i + 1) pieces) is)
 
 -- no pieces fit behind others
 pub places_fit-none : (regions : List Region) (old : Option ℕ) (pieces : List Piece) (i : ℕ) → length pieces ≤ i
     → places_fit_behind regions old (drop i pieces) ≡ is_some old
 unfolding hosts_of fit_behind
-places_fit-none regions old pieces i past = ap (places_fit_behind regions old) (drop-past pieces i past)
+places_fit-none regions old pieces i past = ap (places_fit_behind regions old) (pieces_from-past pieces i past)
 
 -- both tests, of which the second fails
 pub and-not : (b : Bool) → (b && false) ≡ false

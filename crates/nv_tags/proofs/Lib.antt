@@ -4,6 +4,7 @@ pub mod Lowest
 pub mod Masks
 pub mod Marks
 pub mod Owners
+pub mod Parted
 pub mod Rows
 pub mod Slots
 pub mod Together

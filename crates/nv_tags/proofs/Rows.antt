@@ -1,5 +1,5 @@
 -- The numbers in a row of which a test holds, in order
-use Rattle.std.proofs.Common.{◌≡◌, ℕ, zero, suc, ◌+◌, ◌<◌, ◌≤◌, ◌==◌, ◌||◌, cond, Bool, true, false, inl, inr, List, [], ◌∷◌, length, take, arith}
+use Rattle.std.proofs.Common.{◌≡◌, ℕ, zero, suc, ◌+◌, ◌<◌, ◌≤◌, ◌==◌, ◌||◌, ◌&&◌, cond, Bool, true, false, inl, inr, List, [], ◌∷◌, length, take, arith}
 use Rattle.std.proofs.Common.{refl, sym, ap, ◌∙◌, subst}
 use Rattle.std.specs.List.{All, filter, list_any, range_with_len}
 use Rattle.std.proofs.lemmas.Bool.{cases_eq, eq-eqb, ne_eqb}
@@ -80,6 +80,22 @@ length-holding test other from at (suc count) same =
     by_test : (b : Bool) (xs ys : List ℕ) → length xs ≡ length ys → length (cond b (from ∷ xs) xs) ≡ length (cond b (at ∷ ys) ys)
     by_test true xs ys as_many = ap suc as_many
     by_test false xs ys as_many = as_many
+
+-- those of which another test holds, too
+pub holding-filter : (test p : ℕ → Bool) (from count : ℕ) → filter p (holding test from count) ≡ holding (λ i. test i && p i) from count
+holding-filter test p from zero = refl
+holding-filter test p from (suc count) = by (holding-filter test p (from + 1) count) (test from) refl (p from) refl
+  where
+    by : filter p (holding test (from + 1) count) ≡ holding (λ i. test i && p i) (from + 1) count → (b : Bool) → test from ≡ b → (c : Bool) → p from ≡ c
+        → filter p (holding test from (suc count)) ≡ holding (λ i. test i && p i) from (suc count)
+    by rest true is c too =
+        ap (filter p) (one test from count true is)
+        ∙ ap (λ (x : Bool). cond x (from ∷ filter p (holding test (from + 1) count)) (filter p (holding test (from + 1) count))) too
+        ∙ ap (λ (xs : List ℕ). cond c (from ∷ xs) xs) rest
+        ∙ sym (one (λ i. test i && p i) from count c (ap (λ (x : Bool). x && p from) is ∙ too))
+    by rest false is c too =
+        ap (filter p) (one test from count false is) ∙ rest
+        ∙ sym (one (λ i. test i && p i) from count false (ap (λ (x : Bool). x && p from) is))
 
 -- each lies there
 pub holding-low : (test : ℕ → Bool) (from count : ℕ) → All (λ i. from ≤ i) (holding test from count)

@@ -1,13 +1,13 @@
 -- Tags as they are kept: states, claims and leaders, side by side; and for each tag that may lead, the tags that follow it, as a number with a bit
--- for each. So are the tags of each guest's commands. No contract of a public function names this.
+-- for each. So are the tags of the commands of each guest, and of each number of a submission queue. No contract of a public function names this.
 use Rattle.std.specs.Prelude.{◌≡◌, ℕ, ◌<◌, ◌==◌, ◌&&◌, not, Bool, true, false, if◌then◌else◌, List, [], ◌∷◌, length, slice_get, slice_index}
-use Rattle.std.specs.Prelude.{slice_index_or, Option, Some, None}
+use Rattle.std.specs.Prelude.{slice_index_or}
 use Rattle.std.specs.Int.{bit_at}
 use Rattle.std.specs.List.{filter, list_any, range_with_len}
 use Rattle.nv_entry.specs.Status.{bit}
 use Rattle.nv_world_model.specs.Area.{tag_count}
-use Rattle.nv_world_model.specs.SetUp.{most_guests}
-use Rattle.nv_tags.specs.Tags.{Slot, command_of, is_free_state, is_of, slot_at, slot_of}
+use Rattle.nv_tags.specs.Numbers.{Key, has_number, is_claim_of, number_count}
+use Rattle.nv_tags.specs.Tags.{Slot, command_of, is_free_state, slot_at, slot_of}
 use Rattle.nv_tags.specs.declared.claim.Claim.{Claim}
 use Rattle.nv_tags.specs.declared.state.TagState.{TagState}
 use Rattle.nv_tags.specs.declared.state.TagState.TheVariants as state
@@ -60,26 +60,21 @@ IsWith before tag now = (t : ℕ) → t < tag_count → bit_at now t ≡ (if t =
 abbrev pub IsWithout : (before tag now : ℕ) → Type 0
 IsWithout before tag now = (t : ℕ) → t < tag_count → bit_at now t ≡ (if t == tag then 0 else bit_at before t)
 
--- masks of guests, where that guest's has the tags of a mask, too
-abbrev pub AreWith : (before : List ℕ) (guest mask : ℕ) (now : List ℕ) → Type 0
-AreWith before guest mask now = (g t : ℕ) → g < most_guests → t < tag_count
-    → bit_at (slice_index now g) t ≡ (if guest == g && bit_at mask t == 1 then 1 else bit_at (slice_index before g) t)
+-- masks by number, where that number's has the tags of a mask, too
+abbrev pub AreWith : (before : List ℕ) (number mask : ℕ) (now : List ℕ) → Type 0
+AreWith before number mask now = (g t : ℕ) → g < number_count → t < tag_count
+    → bit_at (slice_index now g) t ≡ (if number == g && bit_at mask t == 1 then 1 else bit_at (slice_index before g) t)
 
--- masks of guests, where that guest's has that tag not any more
-abbrev pub AreWithout : (before : List ℕ) (guest tag : ℕ) (now : List ℕ) → Type 0
-AreWithout before guest tag now = (g t : ℕ) → g < most_guests → t < tag_count
-    → bit_at (slice_index now g) t ≡ (if guest == g && t == tag then 0 else bit_at (slice_index before g) t)
+-- masks by number, where that number's has that tag not any more
+abbrev pub AreWithout : (before : List ℕ) (number tag : ℕ) (now : List ℕ) → Type 0
+AreWithout before number tag now = (g t : ℕ) → g < number_count → t < tag_count
+    → bit_at (slice_index now g) t ≡ (if number == g && t == tag then 0 else bit_at (slice_index before g) t)
 
--- whether a claim is that guest's
-abbrev pub is_claim_of : (guest : ℕ) → Option Claim → Bool
-is_claim_of guest None = false
-is_claim_of guest (Some claim) = claim.guest == guest
-
--- masks of guests, where each guest's has those of these tags whose claims are its own not any more
-abbrev pub AreWithoutEach : (before : List ℕ) → List Claim → (tags now : List ℕ) → Type 0
-AreWithoutEach before claims tags now = (g t : ℕ) → g < most_guests → t < tag_count
+-- masks by number, where each number's has those of these tags whose claims have it not any more
+abbrev pub AreWithoutEach : Key → (before : List ℕ) → List Claim → (tags now : List ℕ) → Type 0
+AreWithoutEach key before claims tags now = (g t : ℕ) → g < number_count → t < tag_count
     → bit_at (slice_index now g) t
-    ≡ (if list_any (λ tag. tag == t) tags && is_claim_of g (slice_get claims t) then 0 else bit_at (slice_index before g) t)
+    ≡ (if list_any (λ tag. tag == t) tags && is_claim_of key g (slice_get claims t) then 0 else bit_at (slice_index before g) t)
 
 -- what is kept of 64 tags
 pub record AreKept (states : List TagState) (claims : List Claim) (leaders groups : List ℕ) : Type 0 where
@@ -99,8 +94,8 @@ pub record AreMarked (states : List TagState) (free taken ended : ℕ) : Type 0 
   pub taken_are : IsMask is_taken_state states taken
   pub ended_are : IsMask is_ended_state states ended
 
--- for each guest the mask of the tags that its commands have
-pub record AreOwned (slots : List Slot) (owned : List ℕ) : Type 0 where
-  pub owned_are : length owned ≡ most_guests
-  pub each : (guest tag : ℕ) → guest < most_guests → tag < tag_count
-      → bit_at (slice_index owned guest) tag ≡ bit (is_of guest (slot_at slots tag))
+-- for each number the mask of the tags whose commands have it
+pub record AreNumbered (key : Key) (slots : List Slot) (masks : List ℕ) : Type 0 where
+  pub masks_are : length masks ≡ number_count
+  pub each : (number tag : ℕ) → number < number_count → tag < tag_count
+      → bit_at (slice_index masks number) tag ≡ bit (has_number key number (slot_at slots tag))

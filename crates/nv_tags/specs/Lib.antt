@@ -1,3 +1,4 @@
 pub mod Tags
 pub mod Kept
 pub mod Laws
+pub mod Numbers

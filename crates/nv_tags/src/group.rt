@@ -1,6 +1,7 @@
 //! Tags of a lane, without memory.
 
-ghost use Rattle.std.specs.Prelude.{◌≡◌, ◌<◌, [], ◌∷◌, IfSome, MatchOption};
+ghost use Rattle.std.specs.Prelude.{◌≡◌, ◌<◌, ◌==◌, [], ◌∷◌, not, IfSome, MatchOption};
+ghost use Rattle.std.specs.List.{filter, list_any};
 ghost use Rattle.nv_world_model.specs.Area.{tag_count};
 ghost use Rattle.nv_tags.specs.Kept.{IsWith, IsWithout, tags_in};
 
@@ -47,6 +48,13 @@ impl Group {
         let tag = self.mask.trailing_zeros() as u8;
         self.mask = without(self.mask, tag);
         Some(tag)
+    }
+
+    /// Drops the tags that another group has, too.
+    pub fn drop_all(&mut self, others: Group)
+        ensures { self.new ≡ filter (λ tag. not (list_any (λ t. t == tag) others)) self.old }
+    {
+        self.mask &= !others.mask;
     }
 }
 

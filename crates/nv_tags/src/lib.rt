@@ -11,8 +11,9 @@
 //! States and commands of tags are in separate arrays. What is looked for is a mask of 64 bits each, so that no search goes over the states: the free
 //! tags, of which a claim takes the lowest; the further tags of a command, with its leader; the tags whose commands were taken, and no more, and those
 //! whose commands have ended ([`Tags::taken`], [`Tags::ended`]), at which alone whoever plans or completes commands looks; and the tags that each guest's
-//! commands have, for guests from 0 to 15, which [`Tags::held`] counts at once for whoever shares the tags out fairly. It is a crate of its own because
-//! it knows nothing of plans: transcripts, plans and slots of rings are kept in `nv_core`.
+//! commands have, for guests from 0 to 15, which [`Tags::held`] counts at once for whoever shares the tags out fairly. With those of each submission
+//! queue's number they are the tags of one queue of one guest ([`Tags::from_queue`]), which wait for room in the same completion queue. It is a crate of
+//! its own because it knows nothing of plans: transcripts, plans and slots of rings are kept in `nv_core`.
 #![tactic(auto)]
 
 mod claim;

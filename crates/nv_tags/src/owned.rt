@@ -1,34 +1,34 @@
-//! The tags that each guest's commands have, as masks.
+//! Tags by a number of their commands, as masks: by the guest's, or by the submission queue's.
 
 ghost use Rattle.std.specs.Prelude.{◌≡◌, ◌<◌, length};
 ghost use Rattle.nv_world_model.specs.Area.{tag_count};
-ghost use Rattle.nv_world_model.specs.SetUp.{most_guests};
 ghost use Rattle.nv_tags.specs.Kept.{AreWith, AreWithout};
+ghost use Rattle.nv_tags.specs.Numbers.{number_count};
 
 use crate::group::without;
-use nv_model::limits::MOST_GUESTS;
 
-/// How many guests have a mask: those from 0 to 15.
-pub(crate) const GUEST_COUNT: usize = MOST_GUESTS as usize;
+/// How many numbers have a mask: those from 0 to 15.
+pub(crate) const NUMBER_COUNT: usize = 16;
 
-/// The tags of a mask are that guest's, too. For a guest from 16 on nothing is kept.
-pub(crate) fn own(owned: &mut [u64; GUEST_COUNT], guest: u8, mask: u64)
-    ensures size { length owned.new ≡ most_guests }
-    ensures bits { AreWith owned.old guest mask owned.new }
+/// The tags of a mask are of that number, too. For a number from 16 on nothing is kept.
+pub(crate) fn own(masks: &mut [u64; NUMBER_COUNT], number: u16, mask: u64)
+    ensures size { length masks.new ≡ number_count }
+    ensures bits { AreWith masks.old number mask masks.new }
 {
-    if guest < MOST_GUESTS {
-        owned[usize::from(guest)] |= mask;
+    let at = usize::from(number);
+    if at < NUMBER_COUNT {
+        masks[at] |= mask;
     }
 }
 
-/// A tag is that guest's no more. For a guest from 16 on nothing is kept.
-pub(crate) fn disown(owned: &mut [u64; GUEST_COUNT], guest: u8, tag: u8)
+/// A tag is of that number no more. For a number from 16 on nothing is kept.
+pub(crate) fn disown(masks: &mut [u64; NUMBER_COUNT], number: u16, tag: u8)
     requires { tag < tag_count }
-    ensures size { length owned.new ≡ most_guests }
-    ensures bits { AreWithout owned.old guest tag owned.new }
+    ensures size { length masks.new ≡ number_count }
+    ensures bits { AreWithout masks.old number tag masks.new }
 {
-    if guest < MOST_GUESTS {
-        let at = usize::from(guest);
-        owned[at] = without(owned[at], tag);
+    let at = usize::from(number);
+    if at < NUMBER_COUNT {
+        masks[at] = without(masks[at], tag);
     }
 }

@@ -1,14 +1,14 @@
 //! Several tags at once.
 
 ghost use Rattle.std.specs.Prelude.{◌≡◌, length, option_map};
-ghost use Rattle.nv_world_model.specs.SetUp.{most_guests};
 ghost use Rattle.nv_tags.specs.Kept.{AreWithoutEach, tags_in};
+ghost use Rattle.nv_tags.specs.Numbers.{ByGuest, ByQueue, number_count};
 ghost use Rattle.nv_tags.specs.Tags.{lowest, set_each};
 ghost use Rattle.nv_tags.specs.declared.state.TagState.TheVariants as state;
 
 use crate::claim::Claim;
 use crate::group::{Group, with};
-use crate::owned::{GUEST_COUNT, disown};
+use crate::owned::{NUMBER_COUNT, disown};
 use crate::state::TagState;
 use nv_model::limits::TAG_COUNT;
 
@@ -46,21 +46,25 @@ pub(crate) fn take_each(
     }
 }
 
-/// Each of these tags is free, and no more one of the guest that its claim names.
+/// Each of these tags is free, and no more one of the guest and of the queue that its claim names.
 pub(crate) fn free_each(
     states: &mut [TagState; TAG_COUNT],
-    owned: &mut [u64; GUEST_COUNT],
+    owned: &mut [u64; NUMBER_COUNT],
+    queued: &mut [u64; NUMBER_COUNT],
     claims: &[Claim; TAG_COUNT],
     tags: Group,
 )
     ensures states { states.new ≡ set_each tags state.Free states.old }
-    ensures size { length owned.new ≡ most_guests }
-    ensures owned { AreWithoutEach owned.old claims.now tags owned.new }
+    ensures size { length owned.new ≡ number_count }
+    ensures owned { AreWithoutEach ByGuest owned.old claims.now tags owned.new }
+    ensures queues { length queued.new ≡ number_count }
+    ensures queued { AreWithoutEach ByQueue queued.old claims.now tags queued.new }
 {
     let mut left = tags;
     while let Some(tag) = left.pop() {
         let at = usize::from(tag);
         states[at] = TagState::Free;
-        disown(owned, claims[at].guest, tag);
+        disown(owned, u16::from(claims[at].guest), tag);
+        disown(queued, claims[at].queue, tag);
     }
 }

@@ -3,13 +3,14 @@
 ghost use Rattle.std.specs.Prelude.{◌≡◌, ◌≢◌, ◌<◌, ◌⊎◌, ℕ, List, length, replicate, slice_set, Some, None, IfSome, is_some};
 ghost use Rattle.nv_world_model.specs.Area.{tag_count};
 ghost use Rattle.nv_world_model.specs.SetUp.{most_guests};
+ghost use Rattle.nv_tags.specs.Numbers.{is_from, number_count};
 ghost use Rattle.nv_tags.specs.Tags.{Ended, Flying, Free, Taken, Used, claimed, command_in, command_of, free_slot, group};
 ghost use Rattle.nv_tags.specs.Tags.{Leads, is_ended, is_of, is_taken, leader_in, leader_of, released, slot_at, state_at, tags_where, taken_by, with_point};
 ghost use Rattle.nv_tags.specs.declared.state.TagState.TheVariants as state;
 
 use crate::claim::Claim;
 use crate::group::{Group, with, without};
-use crate::owned::{GUEST_COUNT, disown, own};
+use crate::owned::{NUMBER_COUNT, disown, own};
 use crate::several::{free_each, lowest_mask, take_each};
 use crate::state::TagState;
 use nv_entry::{Sqe, Status};
@@ -32,12 +33,15 @@ pub struct Tags {
     // the tags whose commands have ended, a bit for each
     ended: u64,
     // for each guest from 0 to 15, the tags that its commands have, a bit for each
-    owned: [u64; GUEST_COUNT],
+    owned: [u64; NUMBER_COUNT],
+    // for each number of a submission queue from 0 to 15, whichever guest's, the tags of the commands that were taken from it, a bit for each
+    queued: [u64; NUMBER_COUNT],
 }
 
 impl Model for Tags {
     ghost use Rattle.std.specs.Prelude.{List};
-    ghost use Rattle.nv_tags.specs.Kept.{AreKept, AreMarked, AreOwned, slots_of};
+    ghost use Rattle.nv_tags.specs.Kept.{AreKept, AreMarked, AreNumbered, slots_of};
+    ghost use Rattle.nv_tags.specs.Numbers.{ByGuest, ByQueue};
     ghost use Rattle.nv_tags.specs.Tags.{Slot};
 
     ghost Value = { List Slot };
@@ -45,7 +49,7 @@ impl Model for Tags {
     ghost view = { λ t. slots_of t.states t.claims t.leaders };
 
     ghost invariant = { λ t. AreKept t.states t.claims t.leaders t.groups × AreMarked t.states t.free t.taken t.ended
-        × AreOwned (slots_of t.states t.claims t.leaders) t.owned };
+        × AreNumbered ByGuest (slots_of t.states t.claims t.leaders) t.owned × AreNumbered ByQueue (slots_of t.states t.claims t.leaders) t.queued };
 }
 
 impl Tags {
@@ -66,7 +70,8 @@ impl Tags {
             free: u64::MAX,
             taken: 0,
             ended: 0,
-            owned: [0; GUEST_COUNT],
+            owned: [0; NUMBER_COUNT],
+            queued: [0; NUMBER_COUNT],
         }
     }
 
@@ -91,7 +96,8 @@ impl Tags {
         ensures some { IfSome result (λ tag. self.new ≡ slice_set self.old tag (Used (command_of claim tag) Taken)) }
         ensures none { result ≡ None → self.new ≡ self.old }
     {
-        let guest = claim.guest;
+        let guest = u16::from(claim.guest);
+        let queue = claim.queue;
         let tag = Group::of(self.free).pop()?;
         let at = usize::from(tag);
         self.states[at] = TagState::Taken;
@@ -99,7 +105,9 @@ impl Tags {
         self.leaders[at] = tag;
         self.free = without(self.free, tag);
         self.taken = with(self.taken, tag);
-        own(&mut self.owned, guest, with(0, tag));
+        let only = with(0, tag);
+        own(&mut self.owned, guest, only);
+        own(&mut self.queued, queue, only);
         Some(tag)
     }
 
@@ -130,7 +138,8 @@ impl Tags {
         self.groups[usize::from(leader)] |= without(mask, leader);
         self.free &= !mask;
         self.taken |= mask;
-        own(&mut self.owned, claim.guest, mask);
+        own(&mut self.owned, u16::from(claim.guest), mask);
+        own(&mut self.queued, claim.queue, mask);
         Some(leader)
     }
 
@@ -183,6 +192,15 @@ impl Tags {
         self.owned[usize::from(guest)].count_ones() as u8
     }
 
+    /// The tags of the commands that were taken from a submission queue of a guest, both of a number from 0 to 15, in order.
+    pub fn from_queue(&self, guest: u8, queue: u16) -> Group
+        requires guest { guest < number_count }
+        requires queue { queue < number_count }
+        ensures { result ≡ tags_where (is_from guest queue) self.now }
+    {
+        Group::of(self.owned[usize::from(guest)] & self.queued[usize::from(queue)])
+    }
+
     /// Where the tag, 0 to 63, is.
     pub fn state(&self, tag: u8) -> TagState
         requires there { tag < tag_count }
@@ -221,8 +239,11 @@ impl Tags {
         self.free = with(self.free, tag);
         self.taken = without(self.taken, tag);
         self.ended = without(self.ended, tag);
-        let guest = self.claims[usize::from(tag)].guest;
+        let claim = &self.claims[usize::from(tag)];
+        let guest = u16::from(claim.guest);
+        let queue = claim.queue;
         disown(&mut self.owned, guest, tag);
+        disown(&mut self.queued, queue, tag);
     }
 
     /// The tags of a command that goes by this tag become free, all at once.
@@ -233,11 +254,15 @@ impl Tags {
         let at = usize::from(leader);
         let freed = with(self.groups[at], leader);
         self.states[at] = TagState::Free;
-        let guest = self.claims[at].guest;
+        let claim = &self.claims[at];
+        let guest = u16::from(claim.guest);
+        let queue = claim.queue;
         disown(&mut self.owned, guest, leader);
+        disown(&mut self.queued, queue, leader);
         free_each(
             &mut self.states,
             &mut self.owned,
+            &mut self.queued,
             &self.claims,
             Group::of(self.groups[at]),
         );

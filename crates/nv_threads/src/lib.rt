@@ -22,7 +22,8 @@
 //! port's act takes room for the second copy of its reply before the step, so that nothing can fail after it. [`Shared::new`] reads the log once,
 //! to see on which lanes commands may be half moved.
 //!
-//! A planner has one command at a time. One that waits for tags is notified where tags are freed. A lane is short where it has free tags, but fewer
+//! A planner has one command at a time. It takes none where its guest's share of the lane has no room, so that no guest can have all tags of a lane; it is
+//! notified once a command of the guest's is posted there. One that waits for tags is notified where tags are freed. A lane is short where it has free tags, but fewer
 //! than some command takes. While a lane is short, planners are also notified where their guest's front entry may be another one, or was written
 //! over.
 //!

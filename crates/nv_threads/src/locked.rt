@@ -67,6 +67,11 @@ impl Locked {
         }
     }
 
+    /// Whether a guest's share of a lane has room for one more command.
+    pub(crate) fn has_share(&self, guest: u8, lane: u8) -> bool {
+        self.world.held_by(lane, guest) <= self.notes.spare()
+    }
+
     /// The guest, as a set, where its admin queue has something to do: its planner takes that up.
     pub(crate) fn with_admin(&self, guest: u8) -> u64 {
         if self.world.due(&Event::Admin(guest)) {

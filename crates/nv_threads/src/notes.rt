@@ -23,6 +23,8 @@ pub(crate) struct Notes {
     queues: [u64; GUESTS],
     // how many extents the namespace has that has most: no command takes more tags
     most: u8,
+    // how many tags of a lane a guest may have while one more command is taken for it there
+    spare: u8,
 }
 
 impl Notes {
@@ -32,6 +34,7 @@ impl Notes {
             lanes: [LaneNotes::new(); LANES],
             queues: [0; GUESTS],
             most: most_extents(world),
+            spare: spare_tags(world),
         };
         for lane in 0..LANES as u8 {
             notes.look_at(world, lane);
@@ -102,6 +105,36 @@ impl Notes {
         match self.lanes.get(usize::from(lane)) {
             Some(notes) => notes.leaders,
             None => 0,
+        }
+    }
+
+    /// How many tags of a lane a guest may have while one more command is taken for it there.
+    pub(crate) fn spare(&self) -> u8 {
+        self.spare
+    }
+
+    /// Guests may have all tags of a lane.
+    #[cfg(test)]
+    pub(crate) fn without_shares(self) -> Self {
+        Notes {
+            spare: TAGS,
+            ..self
+        }
+    }
+
+    /// The guests, as a set, of which a command was held back on a lane.
+    #[cfg(test)]
+    pub(crate) fn held_back(&self, lane: u8) -> u64 {
+        match self.lanes.get(usize::from(lane)) {
+            Some(notes) => notes.held_back,
+            None => 0,
+        }
+    }
+
+    /// A command of a guest may be taken on a lane, and is not, since the guest's share has no room.
+    pub(crate) fn hold_back(&mut self, lane: u8, guest: u8) {
+        if let Some(notes) = self.lanes.get_mut(usize::from(lane)) {
+            notes.held_back |= bit(guest);
         }
     }
 
@@ -191,6 +224,20 @@ fn most_extents(world: &World) -> u8 {
     most
 }
 
+// Of a lane's tags those that are left where each guest has one for each of its extents, divided among the guests. None, where these alone are more than
+// there are: then a guest has one command at a time.
+fn spare_tags(world: &World) -> u8 {
+    let mut left = TAGS;
+    let mut guests: u8 = 0;
+    for guest in 0..MOST_GUESTS {
+        if let Some(ns) = world.range(guest) {
+            left = left.saturating_sub(ns.len() as u8);
+            guests = guests.saturating_add(1);
+        }
+    }
+    left / guests.max(1)
+}
+
 // How many tags a command has that has these after the one that it goes by.
 fn size_with(behind: u64) -> u64 {
     if behind == 0 {
@@ -213,6 +260,8 @@ struct LaneNotes {
     owners: [u8; TAG_COUNT],
     // of the command that goes by each tag, the further tags; none where no command takes several
     groups: [u64; TAG_COUNT],
+    // the guests of which a command might be taken, and is not, since their share has no room
+    held_back: u64,
     // whether the physical controller took commands before the world was shared
     served: bool,
 }
@@ -226,6 +275,7 @@ impl LaneNotes {
             ended: 0,
             owners: [0; TAG_COUNT],
             groups: [0; TAG_COUNT],
+            held_back: 0,
             served: false,
         }
     }
@@ -288,8 +338,8 @@ impl LaneNotes {
         }
     }
 
-    // The tags of the command that goes by this one are free again. Its guest may see the completion; and where fewer tags were free than
-    // some command takes, any planner may take a command now.
+    // The tags of the command that goes by this one are free again. Its guest may see the completion, and may have a command taken that was held back.
+    // Where fewer tags were free than some command takes, any planner may take one now.
     fn post(&mut self, leader: u8, most: u8) -> Concern {
         let were_few = self.has_fewer(most);
         let behind = match self.groups.get_mut(usize::from(leader)) {
@@ -299,14 +349,24 @@ impl LaneNotes {
         self.used &= !(bit(leader) | behind);
         self.leaders &= !bit(leader);
         self.ended = self.ended.saturating_sub(size_with(behind));
-        let mut concern = match self.owners.get(usize::from(leader)) {
-            Some(owner) => Concern::guest(*owner),
+        let mut concern = match self.owners.get(usize::from(leader)).copied() {
+            Some(owner) => Concern {
+                planners: self.let_go(owner),
+                ..Concern::guest(owner)
+            },
             None => Concern::nobody(),
         };
         if were_few {
             concern.planners = u64::MAX;
         }
         concern
+    }
+
+    // The guest, as a set, where a command of it was held back. It is tried again.
+    fn let_go(&mut self, guest: u8) -> u64 {
+        let held_back = self.held_back & bit(guest);
+        self.held_back &= !held_back;
+        held_back
     }
 
     // Whether fewer tags are free than so many.

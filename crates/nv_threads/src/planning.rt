@@ -20,8 +20,9 @@ use std::alloc::Global;
 use std::sync::Wait;
 use std::time::Clock;
 
-/// Takes and plans the commands of a guest on a lane, until the workers are to stop: its admin commands, and those of its I/O queues. Where a plan
-/// wants bytes that were not read, they are read. Where there is no memory for a plan, the command is given up. What is wanted next is found by a
+/// Takes and plans the commands of a guest on a lane, until the workers are to stop: its admin commands, and those of its I/O queues. A command is taken
+/// only where the guest's share of the lane's tags has room for it: a guest has one tag for each of its extents, and of the tags that are left the same number
+/// as each other guest. Where a plan wants bytes that were not read, they are read. Where there is no memory for a plan, the command is given up. What is wanted next is found by a
 /// plan that is fed, read by read, so that each read costs the same however many were made before. Plans are made by the gate. Both happen outside
 /// the lock, in a heap of `heap_bytes` bytes, and the gate has all of it. Where there is no memory for the heap itself, every command is given up.
 /// Where there is no memory for a job, for the copy of the guest's map or for a step, it is tried again. A guest that isn't there has nothing to be
@@ -232,7 +233,7 @@ impl GuestPlanner {
     }
 
     // Takes up an admin command, or takes a command of the next queue, after the last, that has one. Queues whose doorbells the guest has not rung
-    // have none.
+    // have none. A command is held back where the guest's share of the lane has no room for it.
     fn take_up(&mut self, locked: &mut Locked, alloc: Global) -> Turn {
         let admin = Event::Admin(self.guest);
         if locked.world.due(&admin) {
@@ -246,6 +247,10 @@ impl GuestPlanner {
             }
             let take = Event::Take(self.guest, queue, self.lane);
             if locked.world.due(&take) {
+                if !locked.has_share(self.guest, self.lane) {
+                    locked.notes.hold_back(self.lane, self.guest);
+                    break;
+                }
                 self.queue = queue;
                 return self.take(locked, alloc, take);
             }

@@ -4,7 +4,7 @@
 //! nothing to do: the world is polled for it everywhere, without notes (`simulated_due`). A guest to which something was posted has news. Its
 //! planners are notified where another entry may be at the front of its queue and a lane is short of tags. From time to time the world is shared
 //! anew, so that workers start with commands that are under way. Guests have one extent each, or several, so that their commands take several tags
-//! and tags run out.
+//! and tags run out. In every second simulation guests may have all tags of a lane; in the others each keeps to its share.
 
 use crate::bits::bit;
 use crate::concern::Concern;
@@ -18,7 +18,8 @@ use crate::reaping::LaneReaper;
 use crate::shared::Shared;
 use crate::simulated_counts::{Ended, Met, are_sizes_noted};
 use crate::simulated_due::{
-    ALL_UNITS, FEW_UNITS, has_nothing_to_move, has_nothing_to_plan, has_nothing_to_reap, was_due,
+    ALL_UNITS, FEW_UNITS, has_nothing_to_move, has_nothing_to_plan, has_nothing_to_reap,
+    is_within_share, was_due,
 };
 use crate::simulated_guest::{Chance, Guest, is_reset, is_store};
 use crate::simulated_noted::note_the_same;
@@ -44,7 +45,7 @@ const LOOKS: u32 = 200;
 const PASSES: u32 = 140_000;
 
 /// How many simulations there are, one a seed, where guests have one extent, and of each kind where they have several.
-const SIMULATIONS: u64 = 12;
+const SIMULATIONS: u64 = 8;
 
 const SIMULATIONS_APART: u64 = 4;
 
@@ -75,6 +76,8 @@ struct Simulation<'a> {
     // what each guest was given
     givens: &'a [GrantCopy],
     locked: Locked,
+    // whether guests keep to their shares
+    shares: bool,
     // how many extents the guest has that has most
     most: u32,
     guests: Vec<Guest>,
@@ -92,9 +95,14 @@ struct Simulation<'a> {
 
 impl<'a> Simulation<'a> {
     // A world without workers.
-    fn new(alloc: Global, extents: &Extents, givens: &'a [GrantCopy]) -> Result<Self, Fail> {
+    fn new(
+        alloc: Global,
+        extents: &Extents,
+        givens: &'a [GrantCopy],
+        shares: bool,
+    ) -> Result<Self, Fail> {
         let world = opened(alloc, extents)?;
-        let notes = Notes::of(&world);
+        let notes = notes_of(&world, shares);
         let mut guests = Vec::new(alloc);
         for _guest in 0..GUESTS {
             guests.push(Guest::new(*extents != ONE))?;
@@ -103,6 +111,7 @@ impl<'a> Simulation<'a> {
             alloc,
             givens,
             locked: Locked { world, notes },
+            shares,
             most: most_of(extents),
             guests,
             planners: Vec::new(alloc),
@@ -129,7 +138,7 @@ impl<'a> Simulation<'a> {
                 self.note_owners(lane)?;
             }
         }
-        self.locked.notes = Notes::of(&self.locked.world);
+        self.locked.notes = notes_of(&self.locked.world, self.shares);
         self.ended.share(&self.locked.notes);
         self.sit_down()
     }
@@ -333,7 +342,7 @@ impl<'a> Simulation<'a> {
         let guest = seat.worker.guest;
         let lane = seat.worker.lane;
         if !seat.looks(is_late) {
-            return Ok(has_nothing_to_plan(&self.locked.world, self.alloc, guest, lane)?);
+            return Ok(has_nothing_to_plan(&self.locked, self.alloc, guest, lane)?);
         }
         if seat.waits {
             self.met.woken = self.met.woken.saturating_add(u64::from(seat.is_rung));
@@ -341,7 +350,8 @@ impl<'a> Simulation<'a> {
         seat.is_rung = false;
         for _ in 0..LOOKS {
             let Some(told) = self.planner_step(rt, at, is_starved) else {
-                return Ok(has_nothing_to_plan(&self.locked.world, self.alloc, guest, lane)?);
+                self.met.hold_back(&self.locked.notes, guest, lane);
+                return Ok(has_nothing_to_plan(&self.locked, self.alloc, guest, lane)?);
             };
             self.ring(told);
             if events(&self.locked.world) != before {
@@ -369,7 +379,8 @@ impl<'a> Simulation<'a> {
                     .passed
                     .saturating_add(u64::from(told.planners != 0));
                 self.note_owners(lane)?;
-                Ok(told.guests == 0 && self.has_rung(guest, told))
+                let is_within = is_within_share(&self.locked, guest, lane);
+                Ok(is_within && told.guests == 0 && self.has_rung(guest, told))
             }
             None => Ok(told.guests == 0),
         }
@@ -476,6 +487,21 @@ impl<'a> Simulation<'a> {
     }
 }
 
+// What there is to be noted of a world, where guests keep to their shares or don't.
+fn notes_of(world: &World, shares: bool) -> Notes {
+    let notes = Notes::of(world);
+    if shares {
+        notes
+    } else {
+        notes.without_shares()
+    }
+}
+
+// Whether guests keep to their shares in the simulation of a seed.
+fn has_shares(seed: u64) -> bool {
+    seed % 2 == 0
+}
+
 // Where the planner of a guest on a lane sits.
 fn planner_at(guest: u8, lane: u8) -> usize {
     usize::from(guest) * usize::from(LANES) + usize::from(lane)
@@ -560,10 +586,16 @@ fn expect_noted(rt: &impl Abort, number: u32, simulation: &Simulation) {
     assert!(rt; is_noted, "notes of turn {number}");
 }
 
-// Ends the test where no lane was ever full, nobody was ever notified, no plan was fed, or a plan had several parts.
+// Ends the test where no lane was ever full, or no command held back where guests keep to their shares, nobody was ever notified, no plan was fed, or a plan
+// had several parts.
 fn expect_met(rt: &impl Abort, simulation: &Simulation) {
     let met = &simulation.met;
-    assert!(rt; met.full > 0 && met.woken > 0 && met.fed > 0);
+    let ran_out = if simulation.shares {
+        met.held_back
+    } else {
+        met.full
+    };
+    assert!(rt; ran_out > 0 && met.woken > 0 && met.fed > 0);
     assert!(rt; events(&simulation.locked.world) > 10_000);
     assert!(rt; met.parted == 0);
 }
@@ -584,7 +616,7 @@ fn simulate_one<R: Abort + Wait + Clock>(
     givens: &[GrantCopy],
     seed: u64,
 ) -> Result<(), Fail> {
-    let mut simulation = Simulation::new(alloc, &ONE, givens)?;
+    let mut simulation = Simulation::new(alloc, &ONE, givens, has_shares(seed))?;
     simulate(rt, &mut simulation, seed, TURNS)?;
     expect_met(rt, &simulation);
     Ok(())
@@ -599,7 +631,7 @@ fn simulate_more<R: Abort + Wait + Clock>(
     seed: u64,
     met: &mut Met,
 ) -> Result<(), Fail> {
-    let mut simulation = Simulation::new(alloc, extents, givens)?;
+    let mut simulation = Simulation::new(alloc, extents, givens, has_shares(seed))?;
     simulation.met = *met;
     simulate(rt, &mut simulation, seed, TURNS)?;
     *met = simulation.met;
@@ -641,7 +673,7 @@ fn run_out<R: Abort + Wait + Clock>(
     seed: u64,
 ) -> Result<(), Fail> {
     let givens = givens(rt, alloc, extents)?;
-    let mut simulation = Simulation::new(alloc, extents, &givens)?;
+    let mut simulation = Simulation::new(alloc, extents, &givens, has_shares(seed))?;
     simulate(rt, &mut simulation, seed, PHASE * 4)?;
     for guest in 0..GUESTS {
         let reset = Act::RegWrite {
@@ -680,7 +712,9 @@ fn expect_nothing(rt: &impl Abort, notes: &Notes) {
 #[test]
 fn nothing_is_noted_where_all_commands_have_run_out(rt: HostRuntime) -> Result<(), Fail> {
     for extents in [ONE, FEW, MANY] {
-        run_out(&rt, rt.alloc(), &extents, 1)?;
+        for seed in 1..=2 {
+            run_out(&rt, rt.alloc(), &extents, seed)?;
+        }
     }
     Ok(())
 }

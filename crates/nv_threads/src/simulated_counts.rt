@@ -165,6 +165,8 @@ pub(crate) struct Met {
     pub(crate) resets: u64,
     /// how many reads plans were fed with
     pub(crate) fed: u64,
+    /// how often a planner found nothing while a command of its guest was held back, since the guest's share had no room
+    pub(crate) held_back: u64,
 }
 
 impl Met {
@@ -179,7 +181,14 @@ impl Met {
             passed: 0,
             resets: 0,
             fed: 0,
+            held_back: 0,
         }
+    }
+
+    /// A planner of a guest on a lane found nothing.
+    pub(crate) fn hold_back(&mut self, notes: &Notes, guest: u8, lane: u8) {
+        let is_held_back = notes.held_back(lane) & bit(guest) != 0;
+        self.held_back = self.held_back.saturating_add(u64::from(is_held_back));
     }
 
     /// A plan was made.
@@ -189,10 +198,10 @@ impl Met {
     }
 
     /// Lanes were full and short of tags, commands took several tags, parts of some ended where they were handed on, commands were taken where a
-    /// lane was short of tags, and controllers were reset.
+    /// lane was short of tags, commands were held back, and controllers were reset.
     pub(crate) fn expect_all(&self, rt: &impl Abort) {
         assert!(rt; self.full > 0 && self.short > 0 && self.passed > 0, "tags");
         assert!(rt; self.parted > 100 && self.idle > 0, "parts");
-        assert!(rt; self.resets > 0, "resets");
+        assert!(rt; self.resets > 0 && self.held_back > 0, "resets and shares");
     }
 }

@@ -1,11 +1,17 @@
 -- A buffer that is cut: its places, its bytes, and that it is mapped where the whole is.
-use Rattle.std.proofs.Common.{◌≡◌, ℕ, ◌+◌, ◌-◌, ◌≤◌, min, List, [], ◌∷◌, ◌++◌, map, refl, ap, sym, ◌∙◌, arith}
-use Rattle.std.specs.List.{range_with_len}
+use Rattle.std.proofs.Common.{◌≡◌, ℕ, zero, suc, ◌+◌, ◌-◌, ◌<◌, ◌≤◌, min, Bool, true, ◌&&◌, List, [], ◌∷◌, ◌++◌, drop, length, map, refl, ap, sym, ◌∙◌, arith}
+use Rattle.std.specs.List.{All, range_with_len}
+use Rattle.std.proofs.lemmas.List.{length-drop, length-take}
+use Rattle.std.proofs.lemmas.List.Elements.{All-cons, All-head, All-nil, All-tail}
 use Rattle.std.proofs.lemmas.List.Sums.{sum_by-cons}
+use Rattle.nv_mem.specs.GuestMap.{everywhere}
 use Rattle.nv_mem.specs.Places.{At, Bucket, Place, addresses, piece_len, places_of, places_of_piece, total_len}
 use Rattle.nv_mem.specs.declared.piece.Piece.{Piece}
 use Rattle.nv_mem.specs.declared.piece.Piece.TheVariants as piece
-use Rattle.nv_mem.proofs.PlaceLists.{length-places_of_piece}
+use Rattle.nv_mem.proofs.PlaceLists.{length-places_of, length-places_of_piece}
+use Rattle.nv_model.specs.Laws.{IsMappedPiece}
+use Rattle.nv_model.proofs.Judged.{everywhere-at}
+use Rattle.nv_model.proofs.RunPieces.{IsRunPiece}
 use Rattle.nv_world_model.specs.Share.{cut_piece, cut_pieces}
 use Rattle.nv_world_model.proofs.Windows.{window, window-append, window-map, window-none, window-range, window-replicate}
 
@@ -43,3 +49,54 @@ cut_pieces-all len (p ∷ ps) enough =
     let head = cut_piece-all len p (omega arith) in
     let tail = ap (λ (skip : ℕ). cut_pieces skip (len - (piece_len p - 0)) ps) none ∙ cut_pieces-all (len - (piece_len p - 0)) ps (omega arith) in
     cc
+
+-- how many bytes are cut out
+pub cut-total : (skip len : ℕ) (pieces : List Piece) → total_len (cut_pieces skip len pieces) ≡ min len (total_len pieces - skip)
+cut-total skip len pieces =
+    let size = length-places_of pieces in
+    let own = length-places_of (cut_pieces skip len pieces) in
+    let taken = length-take len (drop skip (places_of pieces)) in
+    let dropped = length-drop skip (places_of pieces) in
+    let same = ap length (places_of-cut_pieces skip len pieces) in
+    omega (arith, size, own, taken, dropped, same)
+
+-- ---- what each piece keeps
+
+-- what is kept of each piece is kept of all
+all-cut : (P : Piece → Type 0) → ((skip len : ℕ) (p : Piece) → P p → P (cut_piece skip len p)) → (skip len : ℕ) (pieces : List Piece)
+    → All P pieces → All P (cut_pieces skip len pieces)
+all-cut P kept skip len [] each = All-nil P
+all-cut P kept skip len (p ∷ ps) each =
+    All-cons P (cut_piece skip len p) (cut_pieces (skip - piece_len p) (len - (piece_len p - skip)) ps) (kept skip len p (All-head P p ps each))
+    (all-cut P kept (skip - piece_len p) (len - (piece_len p - skip)) ps (All-tail P p ps each))
+
+both : (a b : Bool) → a ≡ true → b ≡ true → (a && b) ≡ true
+both a b first second = cc
+
+everywhere-from : (test : ℕ → Bool) (addr len : ℕ) → ((i : ℕ) → i < len → test (addr + i) ≡ true) → everywhere test addr len ≡ true
+unfolding everywhere
+everywhere-from test addr zero each = refl
+everywhere-from test addr (suc len) each =
+    both (test (addr + len)) (everywhere test addr len) (each len (omega arith))
+    (everywhere-from test addr len (λ i below. each i (omega (arith, below))))
+
+-- that it is mapped
+cut-mapped : (test : ℕ → Bool) (skip len : ℕ) (p : Piece) → IsMappedPiece test p → IsMappedPiece test (cut_piece skip len p)
+cut-mapped test skip len (piece.Run addr bytes) is =
+    everywhere-from test (addr + skip) (min len (bytes - skip)) (λ i below.
+    (let at : addr + skip + i ≡ addr + (skip + i) = omega arith in
+    ap test at ∙ everywhere-at test addr bytes (skip + i) is (omega (arith, below))))
+cut-mapped test skip len (piece.Bucket bytes) is = tt
+
+pub cut_pieces-mapped : (test : ℕ → Bool) (skip len : ℕ) (pieces : List Piece) → All (IsMappedPiece test) pieces
+    → All (IsMappedPiece test) (cut_pieces skip len pieces)
+cut_pieces-mapped test skip len pieces each = all-cut (IsMappedPiece test) (cut-mapped test) skip len pieces each
+
+-- that it is a run
+cut-run : (skip len : ℕ) (p : Piece) → IsRunPiece p → IsRunPiece (cut_piece skip len p)
+unfolding IsRunPiece
+cut-run skip len (piece.Run addr bytes) is = tt
+cut-run skip len (piece.Bucket bytes) is = absurd is
+
+pub cut_pieces-runs : (skip len : ℕ) (pieces : List Piece) → All IsRunPiece pieces → All IsRunPiece (cut_pieces skip len pieces)
+cut_pieces-runs skip len pieces each = all-cut IsRunPiece cut-run skip len pieces each

@@ -10,6 +10,7 @@ pub mod LaneCounts
 pub mod Windows
 pub mod CutPieces
 pub mod ShareNumbers
+pub mod RangeCuts
 pub mod ShareUnits
 pub mod OneExtent
 pub mod AllShares

@@ -4,7 +4,6 @@ use Rattle.std.proofs.Common.{Option, Some, None, refl, ap, sym, ◌∙◌, inl,
 use Rattle.std.specs.List.{All, cons_option, list_all, range_with_len}
 use Rattle.std.specs.Option.{option_map}
 use Rattle.std.proofs.lemmas.Bool.{cases_eq}
-use Rattle.std.proofs.lemmas.Grind.{common_steps}
 use Rattle.std.proofs.lemmas.List.Sums.{sum_by-cons}
 use Rattle.nv_entry.specs.Layout.{number_bytes}
 use Rattle.nv_entry.specs.Range.{attributes_of, blocks_of, start_of}
@@ -28,6 +27,7 @@ use Rattle.nv_world_model.specs.Plan.{Bounced, Direct, NoData, Plan, go_plan, pl
 use Rattle.nv_world_model.specs.Share.{Share, block_share, cut_pieces, cut_range, numbers_met, range_in, range_share, ranges_met, shares_by}
 use Rattle.nv_world_model.specs.Share.{shares_of, units_at, whole_share, with_work}
 use Rattle.nv_world_model.proofs.CutPieces.{cut_pieces-all}
+use Rattle.nv_world_model.proofs.RangeCuts.{not_zero, some_cut}
 use Rattle.nv_world_model.proofs.ShareNumbers.{all_blocks, range-append}
 use Rattle.nv_world_model.proofs.ShareUnits.{clears-within, length-range_units, moves-within, units_at-all}
 
@@ -72,12 +72,6 @@ left_of false b both = absurd (cc)
 right_of : (a b : Bool) → (a && b) ≡ true → b ≡ true
 right_of true b both = both
 right_of false b both = absurd (cc)
-
-not_zero : (n : ℕ) → 0 < n → eqb n 0 ≡ false
-not_zero n some = grind (arith, common_steps)
-
-some_cut : (cut : Cut) → 0 < cut.count → if_any cut ≡ Some cut
-some_cut cut some = grind (arith, common_steps)
 
 pub cut_range-all : (range : List ℕ) (cut : Cut) → cut.count ≡ blocks_of range → cut_range range cut ≡ range
 cut_range-all range cut all =

@@ -1,15 +1,12 @@
 -- The units of a share of Dataset Management are those of its own ranges.
 use Rattle.std.proofs.Common.{◌≡◌, ℕ, zero, suc, ◌+◌, ◌*◌, ◌^◌, ◌<◌, ◌≤◌, eqb, cond, Bool, true, false, ◌&&◌, List, [], ◌∷◌, ◌++◌, map, length}
-use Rattle.std.proofs.Common.{append-nil, append_assoc, length-append, Option, Some, None, refl, ap, sym, ◌∙◌, inl, inr, subst, arith, eq-eqb, eqb-true}
+use Rattle.std.proofs.Common.{append-nil, append_assoc, length-append, Option, Some, None, refl, ap, sym, ◌∙◌, inl, inr, subst, arith, eq-eqb}
 use Rattle.std.specs.List.{All, cons_option, enumerate_from, flat_map, list_all, range_with_len, slice_get}
 use Rattle.std.specs.Option.{option_map, option_to_list}
-use Rattle.std.proofs.lemmas.Bool.{cases_eq, cases_lt, eqb-false}
-use Rattle.std.proofs.lemmas.Grind.{common_steps}
+use Rattle.std.proofs.lemmas.Bool.{cases_eq, cases_lt}
 use Rattle.std.proofs.lemmas.List.Elements.{All-cons, All-head, All-nil, All-tail, filter_map-append}
 use Rattle.std.proofs.lemmas.List.FromFn.{length-map-range_with_len}
-use Rattle.byteorder.specs.Numbers.{little_number-reads_back}
-use Rattle.nv_entry.specs.Layout.{dword, number_at, number_bytes, qword}
-use Rattle.nv_entry.specs.Range.{attributes_of, blocks_of, start_of}
+use Rattle.nv_entry.specs.Range.{blocks_of, start_of}
 use Rattle.nv_mem.specs.declared.region.Region.{Region}
 use Rattle.nv_ns.specs.Extents.{Cut, Namespace, Placed, common, if_any, placed}
 use Rattle.nv_ns.proofs.Ranges.{InNamespace-tested}
@@ -20,39 +17,8 @@ use Rattle.nv_world_model.specs.Plan.{Bounced, go_plan, plan_of}
 use Rattle.nv_world_model.specs.Share.{cut_pieces, cut_range, numbers_met, range_in, range_share, ranges_met, shares_by}
 use Rattle.nv_world_model.specs.Share.{shares_of, unit_behind, units_at}
 use Rattle.nv_world_model.specs.SharesLaws.{FitsFields, HasItsUnits}
+use Rattle.nv_world_model.proofs.RangeCuts.{cut-blocks, cut-start, no_cut, not_zero, some_cut}
 use Rattle.nv_world_model.proofs.ShareUnits.{unit_behind-none}
-
--- ---- what is read of the part of a range
-
--- what is spelled where it isn't all of the range
-abbrev cut_bytes : (range : List ℕ) → Cut → List ℕ
-cut_bytes range cut = number_bytes 4 (attributes_of range) ++ number_bytes 4 cut.count ++ number_bytes 8 (start_of range + cut.first)
-
-bytes-blocks : (range : List ℕ) (cut : Cut) → cut.count < 2 ^ 32 → blocks_of (cut_bytes range cut) ≡ cut.count
-unfolding dword number_at
-bytes-blocks range cut fits = little_number-reads_back 4 cut.count (number_bytes 8 (start_of range + cut.first)) fits
-
-bytes-start : (range : List ℕ) (cut : Cut) → start_of range + cut.first < 2 ^ 64 → start_of (cut_bytes range cut) ≡ start_of range + cut.first
-unfolding qword number_at
-bytes-start range cut fits = little_number-reads_back 8 (start_of range + cut.first) [] fits
-
-cut-blocks : (range : List ℕ) (cut : Cut) → cut.count ≤ blocks_of range → blocks_of range ≤ 2 ^ 32 → blocks_of (cut_range range cut) ≡ cut.count
-cut-blocks range cut within fits =
-    (elim (eqb cut.count (blocks_of range)) as (λ b. eqb cut.count (blocks_of range) ≡ b → blocks_of (cond b range (cut_bytes range cut)) ≡ cut.count) [
-      | true ↦ λ is. sym (eqb-true cut.count (blocks_of range) is)
-      | false ↦ λ is. (let other = eqb-false cut.count (blocks_of range) is in bytes-blocks range cut (less other))
-    ]) refl
-  where
-    less : (cut.count ≡ blocks_of range → ⊥) → cut.count < 2 ^ 32
-    less other = elim (cases_eq cut.count (blocks_of range)) [ inl same ↦ absurd (other same) | inr apart ↦ omega arith ]
-
-cut-start : (range : List ℕ) (cut : Cut) → (cut.count ≡ blocks_of range → cut.first ≡ 0) → start_of range + cut.first < 2 ^ 64
-    → start_of (cut_range range cut) ≡ start_of range + cut.first
-cut-start range cut all fits =
-    (elim (eqb cut.count (blocks_of range)) as (λ b. eqb cut.count (blocks_of range) ≡ b → start_of (cond b range (cut_bytes range cut)) ≡ start_of range + cut.first) [
-      | true ↦ λ is. (let none = all (eqb-true cut.count (blocks_of range) is) in omega arith)
-      | false ↦ λ is. bytes-start range cut fits
-    ]) refl
 
 -- ---- units of a range
 
@@ -120,15 +86,6 @@ row-picked deallocate front back start blocks first count within =
     ∙ ap (λ (n : ℕ). Some (range_unit deallocate n)) lba))
 
 -- ---- one range
-
-not_zero : (n : ℕ) → 0 < n → eqb n 0 ≡ false
-not_zero n some = grind (arith, common_steps)
-
-some_cut : (cut : Cut) → 0 < cut.count → if_any cut ≡ Some cut
-some_cut cut some = grind (arith, common_steps)
-
-no_cut : (cut : Cut) → cut.count ≡ 0 → if_any cut ≡ None
-no_cut cut none = grind (arith, common_steps)
 
 -- the units of a range that is there, or of none
 abbrev units_of : (deallocate : Bool) → Option (List ℕ) → List WorkUnit

@@ -1,11 +1,9 @@
 -- A share's units are the whole's units of its numbers, and move what those move.
-use Rattle.std.proofs.Common.{◌≡◌, ℕ, zero, suc, ◌+◌, ◌-◌, ◌*◌, ◌<◌, ◌≤◌, Bool, false, ◌||◌, List, [], ◌∷◌, length, take, drop, Some, refl, ap}
+use Rattle.std.proofs.Common.{◌≡◌, ℕ, zero, suc, ◌+◌, ◌-◌, ◌*◌, ◌<◌, ◌≤◌, Bool, false, ◌||◌, List, length, take, drop, Some, refl, ap}
 use Rattle.std.proofs.Common.{sym, ◌∙◌, arith}
 use Rattle.std.specs.List.{range_with_len, slice_get}
-use Rattle.std.specs.Option.{option_map}
-use Rattle.std.proofs.lemmas.List.{drop-drop, drop-take, length-drop, length-map, length-take-le, take-take}
+use Rattle.std.proofs.lemmas.List.{drop-drop, drop-take, take-take}
 use Rattle.std.proofs.lemmas.List.FromFn.{length-range_with_len}
-use Rattle.std.proofs.lemmas.Option.{slice_get-map}
 use Rattle.nv_entry.specs.declared.opcode.IoOpcode.{IoOpcode}
 use Rattle.nv_entry.specs.declared.opcode.IoOpcode.TheVariants.{Compare, DatasetManagement, Flush, Read, Write, WriteZeroes}
 use Rattle.nv_mem.specs.Places.{Place, places_of}
@@ -18,7 +16,7 @@ use Rattle.nv_model.proofs.Units.{clear_units-at, length-clear_units, length-mov
 use Rattle.nv_world_model.specs.Share.{cut_pieces, unit_behind, units_at}
 use Rattle.nv_world_model.specs.SharesLaws.{IsPartOf, MovesAlike}
 use Rattle.nv_world_model.proofs.CutPieces.{places_of-cut_pieces}
-use Rattle.nv_world_model.proofs.ShareUnits.{units_at-range}
+use Rattle.nv_world_model.proofs.ShareUnits.{units-get, units-size}
 use Rattle.nv_world_model.proofs.Windows.{window}
 
 -- ---- a window of a window
@@ -84,37 +82,6 @@ pub range-get : (from count k number : ℕ) → slice_get (range_with_len from c
 range-get from zero k number is = absurd (cc)
 range-get from (suc count) zero number is = let same : from ≡ number = cc in (omega arith, omega arith)
 range-get from (suc count) (suc k) number is = let on = range-get (from + 1) count k number is in (omega (arith, on.0), omega (arith, on.1))
-
-take-get : {X : Type 0} (xs : List X) (len k : ℕ) → k < len → slice_get (take len xs) k ≡ slice_get xs k
-take-get xs zero k below = absurd (omega arith)
-take-get [] (suc len) k below = refl
-take-get (x ∷ xs) (suc len) zero below = refl
-take-get (x ∷ xs) (suc len) (suc k) below = take-get xs len k (omega arith)
-
-drop-get : {X : Type 0} (xs : List X) (skip k : ℕ) → slice_get (drop skip xs) k ≡ slice_get xs (skip + k)
-drop-get xs zero k = let same : k ≡ zero + k = omega arith in ap (slice_get xs) same
-drop-get [] (suc skip) k = let same : suc skip + k ≡ suc (skip + k) = omega arith in refl
-drop-get (x ∷ xs) (suc skip) k =
-    let same : suc (skip + k) ≡ suc skip + k = omega arith in drop-get xs skip k ∙ ap (slice_get (x ∷ xs)) same
-
-window-get : {X : Type 0} (xs : List X) (skip len k : ℕ) → k < len → slice_get (window skip len xs) k ≡ slice_get xs (skip + k)
-window-get xs skip len k below = take-get (drop skip xs) len k below ∙ drop-get xs skip k
-
--- the units that a run's share picks
-units-get : (first count k : ℕ) (units : List WorkUnit) (unit : WorkUnit) → k < count → first + count ≤ length units
-    → slice_get units (first + k) ≡ Some unit → slice_get (units_at first units (range_with_len first count)) k ≡ Some (unit_behind first unit)
-units-get first count k units unit below within is =
-    ap (λ (xs : List WorkUnit). slice_get xs k) (units_at-range first units first count within)
-    ∙ slice_get-map (unit_behind first) (window first count units) k
-    ∙ ap (option_map (unit_behind first)) (window-get units first count k below ∙ is)
-
-units-size : (first count : ℕ) (units : List WorkUnit) → first + count ≤ length units
-    → length (units_at first units (range_with_len first count)) ≡ count
-units-size first count units within =
-    let rest = length-drop first units in
-    ap length (units_at-range first units first count within)
-    ∙ length-map (window first count units) (unit_behind first)
-    ∙ length-take-le count (drop first units) (omega arith)
 
 -- the work of a run's share
 abbrev pub run_work : Work → (first count : ℕ) → Work

@@ -14,8 +14,7 @@ use Rattle.nv_entry.specs.declared.opcode.IoOpcode.TheVariants.{Compare, Dataset
 use Rattle.nv_mem.specs.declared.region.Region.{Region}
 use Rattle.nv_ns.specs.Extents.{Cut, Namespace, Placed, blocks_in, common, cuts, placed}
 use Rattle.nv_ns.specs.Laws.{NamesBlocks}
-use Rattle.nv_ns.proofs.CutWalk.{cuts-walk}
-use Rattle.nv_ns.proofs.Spelled.{walk-names}
+use Rattle.nv_ns.proofs.Spelled.{cuts-name}
 use Rattle.nv_model.specs.Judge.{ClearBlock, Clear, Form, Go, KeepAll, Keep, LeaveBlock, Manage, MoveBlock, Transfer, Work, WorkUnit, count_of}
 use Rattle.nv_model.specs.Judge.{form_of, form_units, is_fua}
 use Rattle.nv_model.specs.Limits.{range_size}
@@ -46,7 +45,7 @@ run_shares plan work ns slba count of part =
     All-map (IsShareOf work) (block_share plan work) (cuts ns slba count)
     (All-weaker (NamesBlocks ns slba count) (λ (cut : Cut). IsShareOf work (block_share plan work cut))
     (λ cut names. (run_work work cut.first cut.count, (of (run_work work cut.first cut.count), part cut names.0)))
-    (cuts ns slba count) (subst (All (NamesBlocks ns slba count)) (sym (cuts-walk ns slba count)) (walk-names ns slba count)))
+    (cuts ns slba count) (cuts-name ns slba count))
 
 -- ---- ranges
 

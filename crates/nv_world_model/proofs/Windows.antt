@@ -1,6 +1,6 @@
 -- So many elements of a list behind the first few.
-use Rattle.std.proofs.Common.{◌≡◌, ℕ, zero, suc, ◌+◌, ◌-◌, min, List, [], ◌∷◌, ◌++◌, map, length, take, drop, replicate, refl, ap, sym, ◌∙◌, arith}
-use Rattle.std.specs.List.{range_with_len}
+use Rattle.std.proofs.Common.{◌≡◌, ℕ, zero, suc, ◌+◌, ◌-◌, ◌<◌, min, List, [], ◌∷◌, ◌++◌, map, length, take, drop, replicate, refl, ap, sym, ◌∙◌, arith}
+use Rattle.std.specs.List.{range_with_len, slice_get}
 use Rattle.std.proofs.lemmas.List.{drop-map, drop-replicate, take-map}
 
 abbrev pub window : {X : Type 0} → (skip len : ℕ) → List X → List X
@@ -75,3 +75,18 @@ window-replicate x n skip len = ap (take len) (drop-replicate skip n x) ∙ take
 -- of a list that something is made of
 pub window-map : {X Y : Type 0} (f : X → Y) (skip len : ℕ) (xs : List X) → window skip len (map f xs) ≡ map f (window skip len xs)
 window-map f skip len xs = ap (take len) (drop-map f skip xs) ∙ take-map f len (drop skip xs)
+
+take-get : {X : Type 0} (xs : List X) (len k : ℕ) → k < len → slice_get (take len xs) k ≡ slice_get xs k
+take-get xs zero k below = absurd (omega arith)
+take-get [] (suc len) k below = refl
+take-get (x ∷ xs) (suc len) zero below = refl
+take-get (x ∷ xs) (suc len) (suc k) below = take-get xs len k (omega arith)
+
+drop-get : {X : Type 0} (xs : List X) (skip k : ℕ) → slice_get (drop skip xs) k ≡ slice_get xs (skip + k)
+drop-get xs zero k = let same : k ≡ zero + k = omega arith in ap (slice_get xs) same
+drop-get [] (suc skip) k = let same : suc skip + k ≡ suc (skip + k) = omega arith in refl
+drop-get (x ∷ xs) (suc skip) k =
+    let same : suc (skip + k) ≡ suc skip + k = omega arith in drop-get xs skip k ∙ ap (slice_get (x ∷ xs)) same
+
+pub window-get : {X : Type 0} (xs : List X) (skip len k : ℕ) → k < len → slice_get (window skip len xs) k ≡ slice_get xs (skip + k)
+window-get xs skip len k below = take-get (drop skip xs) len k below ∙ drop-get xs skip k

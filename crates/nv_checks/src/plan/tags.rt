@@ -1,5 +1,5 @@
 //! The tags of a lane.
-use nv_entry::Sqe;
+use nv_entry::{Sqe, StatusCode};
 use nv_tags::{Claim, Group, TagState, Tags};
 use std::process::Abort;
 
@@ -82,4 +82,51 @@ fn too_few_free_tags(rt: HostRuntime) {
     assert!(rt; tags.state(63) == TagState::Free);
     assert_eq!(rt; tags.claim_group(claim(63), 1), Some(63));
     assert!(rt; !tags.has_free());
+}
+
+// A command of that guest, from that queue.
+fn claim_of(guest: u8, queue: u16) -> Claim {
+    Claim {
+        guest,
+        ..claim(queue)
+    }
+}
+
+/// Tags of guest 3 and guest 5 from queues 1 and 2: those of a queue of a guest are told apart from those of the same queue of another guest, whether
+/// they were taken one by one or together, as the commands go on and are released in either way.
+#[test]
+fn tags_of_one_queue(rt: HostRuntime) {
+    let mut tags = Tags::new();
+    assert_eq!(rt; tags.claim(claim_of(3, 1)), Some(0));
+    assert_eq!(rt; tags.claim_group(claim_of(3, 2), 2), Some(1));
+    assert_eq!(rt; tags.claim(claim_of(5, 1)), Some(3));
+    assert_eq!(rt; tags.claim_group(claim_of(3, 1), 3), Some(4));
+    assert!(rt; has_tags(tags.from_queue(3, 1), &[0, 4, 5, 6]));
+    assert!(rt; has_tags(tags.from_queue(3, 2), &[1, 2]));
+    assert!(rt; has_tags(tags.from_queue(5, 1), &[3]));
+    assert!(rt; has_tags(tags.from_queue(5, 2), &[]) && has_tags(tags.from_queue(4, 1), &[]));
+    assert!(rt; tags.state(0) == TagState::Taken);
+    tags.fly(0);
+    assert!(rt; tags.state(4) == TagState::Taken);
+    tags.end(4, StatusCode::Success.status());
+    assert!(rt; has_tags(tags.from_queue(3, 1), &[0, 4, 5, 6]));
+    assert!(rt; tags.state(0) == TagState::Flying);
+    tags.release(0);
+    assert!(rt; has_tags(tags.from_queue(3, 1), &[4, 5, 6]));
+    assert!(rt; tags.state(4) != TagState::Free && tags.leader(4) == 4);
+    tags.release_group(4);
+    assert!(rt; has_tags(tags.from_queue(3, 1), &[]));
+    assert_eq!(rt; tags.claim_group(claim_of(5, 2), 2), Some(0));
+    assert!(rt;
+        has_tags(tags.from_queue(5, 2), &[0, 4]) && has_tags(tags.from_queue(3, 2), &[1, 2])
+    );
+    assert_eq!(rt; (tags.held(5), tags.held(3)), (3, 2));
+}
+
+/// Tags that another group has, too, are dropped, and no others.
+#[test]
+fn tags_are_dropped(rt: HostRuntime) {
+    let mut group = Group::of(0b1011_0110);
+    group.drop_all(Group::of(0b1000_1010));
+    assert!(rt; has_tags(group, &[2, 4, 5]));
 }

@@ -3,35 +3,28 @@ use Rattle.std.proofs.Common.{◌≡◌, ℕ, zero, suc, inl, inr, Bool, true, f
 use Rattle.std.proofs.Common.{arith, refl, sym, ap, ◌∙◌, eq-eqb, eqb-true, subst}
 use Rattle.std.proofs.lemmas.Bool.{cases_eq, ne_eqb}
 use Rattle.nv_entry.specs.Status.{StatusField}
-use Rattle.nv_entry.specs.StatusCode.{done_with}
-use Rattle.nv_entry.specs.declared.status_code.StatusCode.TheVariants.{Success}
 use Rattle.nv_model.specs.Judge.{Verdict}
 use Rattle.nv_model.specs.Memory.{image}
 use Rattle.nv_model.specs.Private.{Ended as EndedWith, JudgeStep, Private, Progress, Taken as Member, judged_at, progress_of, put, step as private_step, unseen, verdict_in, with_taken}
 use Rattle.nv_model.specs.Transcript.{ReadDone}
 use Rattle.nv_model.specs.declared.reply.Reply.TheVariants as reply
 use Rattle.nv_world_model.specs.declared.event.Event.TheVariants as event
-use Rattle.nv_world_model.specs.Area.{bounce_page}
 use Rattle.nv_world_model.specs.Geometry.{Geometry, Guest, regions_of, shape_of}
 use Rattle.nv_world_model.specs.Disciplined.{in_order}
-use Rattle.nv_world_model.specs.Seat.{member_in, name_of, rests_of}
+use Rattle.nv_world_model.specs.Seat.{name_of}
 use Rattle.nv_world_model.specs.Step.{ended_at_once, replied}
 use Rattle.nv_world_model.specs.View.{is_tag_of, own_held}
-use Rattle.nv_world_model.specs.World.{Command, Ended, Lane, Tag, Taken, World, group, group_in, leader_of, tag_in, tag_of, with_tag, with_tags}
+use Rattle.nv_world_model.specs.World.{Command, Lane, Tag, Taken, World, group, group_in, leader_of, tag_in, tag_of}
 use Rattle.nv_world_model.specs.World.{is_that}
-use Rattle.nv_laws_sound.proofs.CountedActs.{HasLane, lane-of}
-use Rattle.nv_laws_sound.proofs.CountedTags.{group-some}
-use Rattle.nv_laws_sound.proofs.Folds.{group-distinct}
-use Rattle.nv_laws_sound.proofs.Numbers.{AreDistinct, numbers-are, numbers_where}
+use Rattle.nv_laws_sound.proofs.Numbers.{numbers-are, numbers_where}
 use Rattle.nv_laws.specs.Following.{GoesAlong, IsReached}
-use Rattle.nv_laws.specs.Related.{IsTagRelated, Related}
+use Rattle.nv_laws.specs.Related.{Related}
 use Rattle.nv_laws.proofs.related.Agreed.{hides_at, verdict-same}
-use Rattle.nv_laws.proofs.related.Changing.{none-touched, touched, with_tag-away, with_tag-here, with_tags-away, with_tags-here, with_tags-rest}
+use Rattle.nv_laws.proofs.related.Changing.{touched}
 use Rattle.nv_laws.proofs.related.Goings.{one-goes}
 use Rattle.nv_laws.proofs.related.Rests.{led}
-use Rattle.nv_laws.proofs.related.Retold.{IsRetold, retag-related}
-use Rattle.nv_laws.proofs.related.Tags.{group-begins, group-taken, hides-nothing, member-mine, own-as, tag-below, taken-is}
-use Rattle.nv_laws.proofs.related.Views.{device_of, status_in}
+use Rattle.nv_laws.proofs.related.Tags.{ended-related, group-taken, hides-nothing, taken-is}
+use Rattle.nv_laws.proofs.related.Views.{device_of}
 
 -- ---- which tags go by one
 
@@ -122,109 +115,5 @@ module _ (host_bytes : ℕ) (geometry : Geometry) (number : ℕ) (guest : Guest)
 
   -- ---- it ends at once
 
-  module _ (st : StatusField) (rest : List ℕ) (is : group w lane tag ≡ tag ∷ rest) where
-    abbrev failed : Tag
-    failed = Ended command st None
-
-    abbrev others : Tag
-    others = Ended command (done_with Success) None
-
-    abbrev first : World
-    first = with_tag lane tag failed w
-
-    abbrev behind : World
-    behind = with_tags lane rest others first
-
-    distinct : AreDistinct (tag ∷ rest)
-    distinct = subst AreDistinct is (group-distinct w lane tag)
-
-    -- each ends, with one status or the other
-    each-ends : (b : ℕ) → touched (tag ∷ rest) b ≡ true → (s : StatusField) × (tag_of behind lane b ≡ Some (Ended command s None))
-    each-ends b among =
-        let was = group-taken host_bytes geometry number guest given w reached p related lane tag command reads there leads mine b (ap (λ ns. touched ns b) is ∙ among) in
-        (elim (touched rest b) as (λ c. touched rest b ≡ c → (s : StatusField) × (tag_of behind lane b ≡ Some (Ended command s None))) [
-          | true ↦ λ later. (let u = still b was.t was.is in (done_with Success, with_tags-here lane rest others first b u.0 later u.1))
-          | false ↦ λ never. (st, front b among never)
-        ]) refl
-      where
-        still : (b : ℕ) (t : Tag) → tag_of w lane b ≡ Some t → (u : Tag) × (tag_of first lane b ≡ Some u)
-        still b t here =
-            (elim (b == tag) as (λ c. (b == tag) ≡ c → (u : Tag) × (tag_of first lane b ≡ Some u)) [
-              | true ↦ λ same. (failed, subst (λ m. tag_of first lane m ≡ Some failed) (sym (eqb-true b tag same)) (with_tag-here w lane tag (Taken command reads) failed there))
-              | false ↦ λ other. (t, with_tag-away w lane tag failed lane b (λ here_too also. (let bad : true ≡ false = sym (eq-eqb b tag also) ∙ other in cc)) ∙ here)
-            ]) refl
-
-        plain : (c : Bool) → (c || false) ≡ true → c ≡ true
-        plain true e = refl
-        plain false e = e
-
-        front : (b : ℕ) → touched (tag ∷ rest) b ≡ true → touched rest b ≡ false → tag_of behind lane b ≡ Some failed
-        front b among never =
-            let same : tag ≡ b = eqb-true tag b (plain (tag == b) (ap (λ d. (tag == b) || d) (sym never) ∙ among)) in
-            with_tags-away lane rest others first lane b (λ here any. (let bad : true ≡ false = sym any ∙ never in cc))
-            ∙ subst (λ m. tag_of first lane m ≡ Some failed) same (with_tag-here w lane tag (Taken command reads) failed there)
-
-    leader-ends : tag_of behind lane tag ≡ Some failed
-    leader-ends =
-        with_tags-away lane rest others first lane tag (λ here any. (let bad : true ≡ false = sym any ∙ none-touched tag rest distinct.0 in cc))
-        ∙ with_tag-here w lane tag (Taken command reads) failed there
-
-    led-elsewhere : (other : ℕ) → (other ≡ tag → ⊥) → (command.leader == other) ≡ false
-    led-elsewhere other apart = ne_eqb command.leader other (λ same. apart (sym same ∙ eqb-true command.leader tag leads))
-
-    retold : IsRetold geometry number guest lane tag (touched (tag ∷ rest)) w behind
-    retold =
-        let only = with_tags-rest lane rest others first in
-        record {
-          tags = (λ a b away.
-              with_tags-away lane rest others first a b (λ same any. away same (later b any))
-              ∙ with_tag-away w lane tag failed a b (λ same also. away same (ap (λ c. c || touched rest b) (eq-eqb tag b (sym also)))));
-          held = (λ a b away. ap (λ (z : World). device_of z a b) only);
-          before = (λ b other among apart.
-              (let was = group-taken host_bytes geometry number guest given w reached p related lane tag command reads there leads mine b (ap (λ ns. touched ns b) is ∙ among) in
-              ap (led other) (was.is ∙ ap (λ x. Some x) was.has.is) ∙ led-elsewhere other apart));
-          behind = (λ b other among apart. (let now = each-ends b among in ap (led other) now.1 ∙ led-elsewhere other apart));
-          bytes = (λ a b t addr away own bytes. sym (ap (λ (z : World). z.host addr) only));
-          memory = sym (ap (λ (z : World). image (regions_of guest) z.host) only);
-          disk = ap (λ (z : World). z.disk) only;
-          kept = ap (λ (z : World). z.kept) only;
-        }
-      where
-        later : (b : ℕ) → touched rest b ≡ true → touched (tag ∷ rest) b ≡ true
-        later b any = by (tag == b)
-          where
-            by : (c : Bool) → (c || touched rest b) ≡ true
-            by true = refl
-            by false = any
-
-    at_once-related : Related geometry number guest behind
-        (judged (EndedWith st))
-    at_once-related =
-        retag-related geometry number guest w behind reached.consistent lane tag (touched (tag ∷ rest))
-        (tag-below host_bytes geometry number guest given w reached p related lane tag (Taken command reads) there) retold p related
-        (Some (member (EndedWith st))) p.controller
-        (ap (λ (z : World). slice_get z.controllers number) (with_tags-rest lane rest others first) ∙ related.controller)
-        (λ b addr among none.
-        (let was = group-taken host_bytes geometry number guest given w reached p related lane tag command reads there leads mine b (ap (λ ns. touched ns b) is ∙ among) in
-        hides-nothing number (tag_of w lane b) (Taken command was.has.reads) (own_held number (tag_of w lane b) (device_of w lane b)) addr
-        (was.is ∙ ap (λ x. Some x) was.has.is) refl))
-        (sym (ap (λ o. member_in o tag number (rests_of geometry behind lane tag)) leader-ends
-        ∙ member-mine tag number command (EndedWith st) leads mine))
-        (λ b among.
-        (let now = each-ends b among in
-        own-as number (tag_of behind lane b) (Ended command now.0 None)
-        (λ o. IsTagRelated o guest (own_held number (tag_of behind lane b) (device_of behind lane b)) (status_in geometry behind lane) (bounce_page geometry.mediator lane b) behind.host p.memory)
-        now.1 mine tt))
-
   pub answered-related : (st : StatusField) → Related geometry number guest (ended_at_once lane (group w lane tag) command st w) (judged (EndedWith st))
-  answered-related st = by (group w lane tag) refl
-    where
-      l : HasLane w lane tag (Taken command reads)
-      l = lane-of w lane tag (Taken command reads) there
-
-      by : (ns : List ℕ) → group w lane tag ≡ ns → Related geometry number guest (ended_at_once lane ns command st w) (judged (EndedWith st))
-      by [] same = absurd (group-some w lane tag l.l (Taken command reads) command l.at l.found refl (eqb-true command.leader tag leads) same)
-      by (n ∷ rest) same =
-          let begins = group-begins host_bytes geometry number guest given w reached p related lane tag command reads there leads mine n rest same in
-          subst (λ m. Related geometry number guest (ended_at_once lane (m ∷ rest) command st w) (judged (EndedWith st)))
-          (sym begins) (at_once-related st rest (same ∙ ap (λ m. m ∷ rest) begins))
+  answered-related st = ended-related host_bytes geometry number guest given w reached p related lane tag command reads there leads mine st

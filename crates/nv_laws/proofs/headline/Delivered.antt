@@ -38,6 +38,7 @@ use Rattle.nv_laws.specs.Related.{HasBuffer, Related, block_names, ended_hides, 
 use Rattle.nv_laws.proofs.related.Acts.{image-unmapped, owner_with}
 use Rattle.nv_laws.proofs.related.Beginning.{awaits, entry_awaits, verdict-awaits}
 use Rattle.nv_laws.proofs.related.Changing.{all-touched, first-touched, touched}
+use Rattle.nv_laws.proofs.related.Retold.{by-touched}
 use Rattle.nv_laws.proofs.related.Disciplines.{never-both, not-so}
 use Rattle.nv_laws.proofs.related.Named.{any-drop, any-one, any-take}
 use Rattle.nv_laws.proofs.related.Tags.{tag-below}
@@ -50,7 +51,6 @@ use Rattle.nv_laws.proofs.units.DeliveredAll.{world-delivered}
 use Rattle.nv_laws.proofs.units.Has.{has-blocks}
 use Rattle.nv_laws.proofs.units.Moving.{read-form}
 use Rattle.nv_laws.proofs.units.OwnShares.{IsOwnShare, own-share}
-use Rattle.nv_laws.proofs.headline.Freed.{by-tags}
 use Rattle.nv_laws.proofs.headline.Over.{HasOver, IsOver, has-over, or-later, over, read-succeeds}
 
 -- ---- places
@@ -295,7 +295,7 @@ module _ (host_bytes : ℕ) (geometry : Geometry) (number : ℕ) (guest : Guest)
       → p.memory addr ≡ image (regions_of guest) w.host addr
   same-at addr inside others bare =
       related.memory addr inside
-      (by-tags lane ns (λ a b. hides_at a b addr ≡ false) (λ b among. own-bare b addr (over-at b among) (bare b among (over-at b among)))
+      (by-touched lane (touched ns) (λ a b. hides_at a b addr ≡ false) (λ b among. own-bare b addr (over-at b among) (bare b among (over-at b among)))
       (λ a b away. others a b away))
 
   -- ---- nothing is

@@ -1,6 +1,6 @@
 -- All tags of a guest's command become free, and what is done with that leaves alone what the guest's other commands name: one stands for the other still.
-use Rattle.std.proofs.Common.{◌≡◌, ℕ, inl, inr, true, false, List, slice_get, Option, Some, None, refl, sym, ap, ◌∙◌, eqb-true, subst}
-use Rattle.std.proofs.lemmas.Bool.{cases_eq, ne_eqb}
+use Rattle.std.proofs.Common.{◌≡◌, ℕ, true, false, List, slice_get, Option, Some, None, refl, sym, ap, ◌∙◌, eqb-true, subst}
+use Rattle.std.proofs.lemmas.Bool.{ne_eqb}
 use Rattle.nv_mem.specs.GuestMap.{guest_of, mapped}
 use Rattle.nv_model.specs.Controller.{Controller}
 use Rattle.nv_model.specs.Memory.{image}
@@ -20,25 +20,13 @@ use Rattle.nv_laws.specs.Following.{IsReached}
 use Rattle.nv_laws.specs.Related.{IsTagRelated, Related, hides}
 use Rattle.nv_laws.proofs.related.Changing.{all-touched, touched, with_tags-away, with_tags-here, with_tags-rest}
 use Rattle.nv_laws.proofs.related.Rests.{goes-part, group-led, led}
-use Rattle.nv_laws.proofs.related.Retold.{IsRetold, told-bag}
+use Rattle.nv_laws.proofs.related.Retold.{IsRetold, by-touched, told-bag}
 use Rattle.nv_laws.proofs.related.SeatsRelated.{area-left, seated, tags-left}
 use Rattle.nv_laws.proofs.related.Tags.{tag-below}
 use Rattle.nv_laws.proofs.related.Undisturbed.{IsTagUntouched, undisturbed}
 use Rattle.nv_laws.proofs.related.Views.{AreTagsLeft, device_of, members-left, own-there, pages-left, status_in, statuses-left}
 use Rattle.nv_laws.proofs.related.Within.{there-fit}
 use Rattle.nv_laws.proofs.headline.Answering.{led-touched}
-
--- these tags of a lane or others
-pub by-tags : (lane : ℕ) (ns : List ℕ) (P : (a b : ℕ) → Type 0) → ((b : ℕ) → touched ns b ≡ true → P lane b)
-    → ((a b : ℕ) → ((a ≡ lane) → touched ns b ≡ true → ⊥) → P a b) → (a b : ℕ) → P a b
-by-tags lane ns P one others a b =
-    elim (cases_eq a lane) [
-      | inr away ↦ others a b (λ same also. away same)
-      | inl same ↦ (elim (touched ns b) as (λ c. touched ns b ≡ c → P a b) [
-        | true ↦ λ is. subst (λ x. P x b) (sym same) (one b is)
-        | false ↦ λ is. others a b (λ here also. (let bad : true ≡ false = sym also ∙ is in cc))
-      ]) refl
-    ]
 
 -- a tag that goes by one goes by no other
 led-other : (o : Option Tag) (leader other : ℕ) → led leader o ≡ true → (other ≡ leader → ⊥) → led other o ≡ false
@@ -196,5 +184,5 @@ module _ (host_bytes : ℕ) (geometry : Geometry) (number : ℕ) (guest : Guest)
           marks = related.marks;
           memory = (λ addr inside none. same addr inside (λ a b away. other-hides a b addr away ∙ none a b));
           bag = freed-bag;
-          tags = by-tags lane ns TagIs free-is other-is;
+          tags = by-touched lane (touched ns) TagIs free-is other-is;
         })

@@ -20,7 +20,7 @@ use Rattle.nv_world_model.specs.Step.{device_moved, replied}
 use Rattle.nv_world_model.specs.View.{own_held, own_tag}
 use Rattle.nv_world_model.specs.World.{InDevice, Tag, World, tag_of}
 use Rattle.nv_laws_sound.proofs.Lists.{some-same}
-use Rattle.nv_laws_sound.proofs.SourceRuns.{source-runs}
+use Rattle.nv_model.proofs.SourceRuns.{source-runs}
 use Rattle.nv_laws.specs.Following.{GoesAlong}
 use Rattle.nv_laws.specs.Related.{HasBuffer, IsUnderWay, form_has_bytes, hides, is_left, left_where}
 use Rattle.nv_laws.proofs.related.Agreed.{place-same}

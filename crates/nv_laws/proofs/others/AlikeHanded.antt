@@ -29,7 +29,7 @@ use Rattle.nv_laws_sound.proofs.Planned.{Answers, IsAnswerOr, IsWhole, Plans, pl
 use Rattle.nv_laws_sound.proofs.Retags.{is-at}
 use Rattle.nv_laws_sound.proofs.Stages.{taken-tags}
 use Rattle.nv_laws_sound.proofs.SubmitEvents.{carried_out-consistent}
-use Rattle.nv_laws_sound.proofs.Submits.{carried-is}
+use Rattle.nv_laws_sound.proofs.HandedOn.{carried-is, share-other}
 use Rattle.nv_laws_sound.proofs.TagEvents.{IsTakenBy}
 use Rattle.nv_laws.specs.Alike.{GoesByItsOwn}
 use Rattle.nv_laws.proofs.others.AlikeFolds.{own-pair, tag-alike}
@@ -37,7 +37,6 @@ use Rattle.nv_laws.proofs.others.AlikeGuests.{ended-alike}
 use Rattle.nv_laws.proofs.others.AlikeReplies.{group-same, rings-same, tag-here}
 use Rattle.nv_laws.proofs.others.AlikeSubmits.{submitted-alike}
 use Rattle.nv_laws.proofs.others.AlikeWalks.{device-both, device-too, owner-both, taken-both}
-use Rattle.nv_laws.proofs.others.HandedEvents.{carried-apart}
 use Rattle.nv_laws.proofs.others.Shown.{in_span}
 
 -- ---- a share that is no physical command
@@ -121,7 +120,7 @@ module _ (host_bytes : ℕ) (geometry : Geometry) (number : ℕ) (guest : Guest)
       handed-alike lane tags shares command c v u (subst (λ n. IsLaidOut host_bytes n geometry) (sym many) laid) now
       (carried-alike w z laid fine alike lane tag command first.has.reads share c found whose is) whose is_given
       (All-tail (IsPlanned guest command.entry) share shares planned)
-      (have-other (IsTakenBy command) w v lane tag tags (λ other differ. carried-apart w v lane tag other a.l command share a.at_lane k differ) apart.0
+      (have-other (IsTakenBy command) w v lane tag tags (λ other differ. share-other w geometry.mediator lane tag other command share (owner_as c) differ) apart.0
       (All-tail (HasTag (IsTakenBy command) w lane) tag tags have)) apart.1
 
   module _ (w z : World) (laid : IsLaidOut host_bytes (length w.lanes) geometry) (fine : IsConsistentOfTags geometry w) (are : HasGroups geometry w.lanes)

@@ -1,14 +1,13 @@
 -- A guest's completions, in worlds that look alike to it: they look alike behind the device's posting of one, and the mediator's reading of one.
-use Rattle.std.proofs.Common.{◌≡◌, ℕ, ◌^◌, ◌<◌, Bool, true, false, cond, ◌&&◌, ◌==◌, List, [], ◌∷◌, length, set, slice_get}
+use Rattle.std.proofs.Common.{◌≡◌, ℕ, ◌^◌, ◌<◌, Bool, true, false, cond, ◌==◌, List, [], ◌∷◌, length, set, slice_get}
 use Rattle.std.proofs.Common.{Option, Some, None, arith, refl, sym, ap, ◌∙◌, eq-eqb, subst}
 use Rattle.std.specs.List.{list_any}
 use Rattle.std.proofs.lemmas.Bool.{eqb-false}
-use Rattle.nv_entry.specs.Completion.{completion, sc_of, sct_of, status_of}
-use Rattle.nv_entry.specs.Layout.{bits, bytes_of_dwords, dword, number_at}
+use Rattle.nv_entry.specs.Completion.{completion, status_of}
 use Rattle.nv_entry.specs.Status.{StatusField}
 use Rattle.nv_entry.specs.StatusCode.{done_with}
 use Rattle.nv_entry.specs.declared.status_code.StatusCode.TheVariants.{InternalError, Success}
-use Rattle.nv_entry.proofs.CompletionLemmas.{bit-lt, length-completion}
+use Rattle.nv_entry.proofs.CompletionLemmas.{completion-back, length-completion}
 use Rattle.nv_model.specs.Memory.{bytes_from, stored}
 use Rattle.nv_model.specs.Private.{moved_status}
 use Rattle.nv_model.specs.Queue.{cqe_size, is_empty, next_slot}
@@ -51,24 +50,6 @@ passed-success st =
       | true ↦ λ good. refl
       | false ↦ λ bad. (elim (st.sct == 2) as (λ b. is_success (cond b st (done_with InternalError)) ≡ false) [ true ↦ bad | false ↦ refl ])
     ]) refl
-
--- a status is read back from its completion
-completion-sct : (dw0 sqhd sqid cid : ℕ) (phase : Bool) (st : StatusField) → cid < 2 ^ 16 → st.sct < 8 → st.sc < 256
-    → sct_of (completion dw0 sqhd sqid cid phase st) ≡ st.sct
-unfolding completion bits dword number_at bytes_of_dwords
-completion-sct dw0 sqhd sqid cid phase st below type code = (let p = bit-lt phase in let d = bit-lt st.dnr in omega arith)
-
-completion-sc : (dw0 sqhd sqid cid : ℕ) (phase : Bool) (st : StatusField) → cid < 2 ^ 16 → st.sct < 8 → st.sc < 256
-    → sc_of (completion dw0 sqhd sqid cid phase st) ≡ st.sc
-unfolding completion bits dword number_at bytes_of_dwords
-completion-sc dw0 sqhd sqid cid phase st below type code = (let p = bit-lt phase in let d = bit-lt st.dnr in omega arith)
-
--- whether it tells of success
-completion-success : (dw0 sqhd sqid cid : ℕ) (phase : Bool) (st : StatusField) → cid < 2 ^ 16 → st.sct < 8 → st.sc < 256
-    → is_success (status_of (completion dw0 sqhd sqid cid phase st)) ≡ is_success st
-completion-success dw0 sqhd sqid cid phase st below type code =
-    ap (λ n. (n == 0) && (sc_of (completion dw0 sqhd sqid cid phase st) == 0)) (completion-sct dw0 sqhd sqid cid phase st below type code)
-    ∙ ap (λ n. (st.sct == 0) && (n == 0)) (completion-sc dw0 sqhd sqid cid phase st below type code)
 
 -- the numbers of a lane that has posted a completion
 numbers-posted : (d e : DeviceLane) (tag : ℕ) → ring_numbers d ≡ ring_numbers e → ring_numbers (completion_posted tag d) ≡ ring_numbers (completion_posted tag e)
@@ -188,7 +169,7 @@ module _ (host_bytes : ℕ) (geometry : Geometry) (w z : World) (laid : IsLaidOu
       λ addr same. stored-at w.host z.host slot bytes addr same ∙ ap (λ n. memory n z.host addr) rings in
       let stands : bytes_from v.host slot cqe_size ≡ bytes = subst (λ n. bytes_from v.host slot n ≡ bytes) sized (bytes_from-stored w.host slot bytes) in
       let success : is_success (status_of (completion_at geometry v lane d.posted)) ≡ is_success st =
-      ap (λ bs. is_success (status_of bs)) stands ∙ completion-success 0 d.head (queue_pair lane) tag d.phase st small type code in
+      ap (λ bs. is_success (status_of bs)) stands ∙ ap is_success (completion-back 0 d.head (queue_pair lane) tag d.phase st small type code) in
       let bounce = bounce_page geometry.mediator lane tag in
       let one = stands-is w lane tag l d command share InDevice (Answered d.posted) (memory (ring_numbers d) w.host) (completion_posted tag) at there flies in
       let two = stands-is z lane tag m e command share InDevice (Answered e.posted) (memory (ring_numbers e) z.host) (completion_posted tag) too again x.tag_two in

@@ -18,7 +18,7 @@ use Rattle.nv_world_model.specs.Seat.{completion_at, held_in}
 use Rattle.nv_world_model.specs.Step.{completion_read}
 use Rattle.nv_world_model.specs.View.{IsAlike, SameMarks, is_tag_of, lane_numbers, own_held, own_tag, ring_numbers, shared_numbers}
 use Rattle.nv_world_model.specs.World.{Lane, Tag, World, is_free, tag_changed, tag_in, tag_of}
-use Rattle.nv_laws.proofs.others.OneTag.{tag-elsewhere, tag-here}
+use Rattle.nv_laws_sound.proofs.Commands.{tag-elsewhere, tag-here}
 use Rattle.nv_laws_sound.proofs.Shows.{bytes_from-between}
 use Rattle.nv_laws.specs.Leaving.{InCompletion, IsBytes}
 use Rattle.nv_laws.proofs.others.Parts.{device-elsewhere}

@@ -1,5 +1,5 @@
 -- What a command leaves that is handed on share by share, or that ends at once.
-use Rattle.std.proofs.Common.{◌≡◌, ℕ, false, ◌==◌, List, [], ◌∷◌, length, slice_get, Some, refl, sym, ap, ◌∙◌, subst}
+use Rattle.std.proofs.Common.{◌≡◌, ℕ, List, [], ◌∷◌, length, slice_get, Some, refl, sym, ap, ◌∙◌, subst}
 use Rattle.std.specs.List.{All}
 use Rattle.std.proofs.lemmas.List.Elements.{All-head, All-tail}
 use Rattle.nv_model.specs.Transcript.{Outcome, ReadDone, Settled, Wanted}
@@ -8,10 +8,9 @@ use Rattle.nv_world_model.specs.Contained.{guest_of_one}
 use Rattle.nv_world_model.specs.Geometry.{Geometry}
 use Rattle.nv_world_model.specs.Plan.{Answer, Bounced, Direct, NoData, Plan, plan_over}
 use Rattle.nv_world_model.specs.Share.{Share, shares_of}
-use Rattle.nv_world_model.proofs.Seats.{slice_get-set, slice_get-set-other}
 use Rattle.nv_world_model.specs.Seat.{Owner, owner_of}
 use Rattle.nv_world_model.specs.Step.{carried_out, carry_out, handed_on, step, submit_by}
-use Rattle.nv_world_model.specs.World.{Command, Lane, Taken, World, group, tag_changed, tag_in, tag_of}
+use Rattle.nv_world_model.specs.World.{Command, Taken, World, group, tag_changed, tag_of}
 use Rattle.nv_world_model.proofs.Seats.{owner_of-is, owner_of-number}
 use Rattle.nv_laws_sound.specs.Consistent.{IsConsistentOfTags, IsPlanned}
 use Rattle.nv_laws_sound.specs.LaidOut.{IsLaidOut}
@@ -23,7 +22,7 @@ use Rattle.nv_laws_sound.proofs.Planned.{Answers, IsAnswerOr, IsWhole, Plans, pl
 use Rattle.nv_laws_sound.proofs.Retags.{is-at}
 use Rattle.nv_laws_sound.proofs.Stages.{taken-tags}
 use Rattle.nv_laws_sound.proofs.SubmitEvents.{carried_out-consistent}
-use Rattle.nv_laws_sound.proofs.Submits.{IsCarried, carried-is}
+use Rattle.nv_laws_sound.proofs.HandedOn.{carried-is, share-other}
 use Rattle.nv_laws_sound.proofs.TagEvents.{IsTakenBy}
 use Rattle.nv_laws_sound.proofs.Walks.{device-walk, owner-walk, taken-walk}
 use Rattle.nv_laws.specs.Leaving.{Leaves}
@@ -31,14 +30,6 @@ use Rattle.nv_laws.proofs.others.DeviceEvents.{carried-leaves}
 use Rattle.nv_laws.proofs.others.Events.{leaves-nothing}
 use Rattle.nv_laws.proofs.others.LeavesFolds.{at_once-leaves, leaves-then}
 use Rattle.nv_laws.proofs.others.TagEvents.{group-owned, of-tag}
-
--- other tags are as they were behind a share
-pub carried-apart : (w z : World) (lane tag other : ℕ) (l : Lane) (command : Command) (share : Share) → slice_get w.lanes lane ≡ Some l
-    → IsCarried w z lane tag l command share → (other == tag) ≡ false → tag_of z lane other ≡ tag_of w lane other
-carried-apart w z lane tag other l command share at c apart =
-    ap (λ ls. tag_in (slice_get ls lane) other) c.lanes
-    ∙ ap (λ o. tag_in o other) (slice_get-set w.lanes lane l (tag_changed tag c.now l) at)
-    ∙ slice_get-set-other l.tags tag other c.now apart ∙ sym (ap (λ o. tag_in o other) at)
 
 module _ (host_bytes : ℕ) (geometry : Geometry) where
   handed_on-leaves : (lane : ℕ) (tags : List ℕ) (shares : List Share) (command : Command) (o : Owner) (w : World)
@@ -62,7 +53,7 @@ module _ (host_bytes : ℕ) (geometry : Geometry) where
       (carried-leaves host_bytes geometry w laid fine lane tag command first.has.reads share o found is)
       (handed_on-leaves lane tags shares command o z (subst (λ n. IsLaidOut host_bytes n geometry) (sym many) laid) now given
       (All-tail (IsPlanned o.given command.entry) share shares planned)
-      (have-other (IsTakenBy command) w z lane tag tags (λ other differ. carried-apart w z lane tag other a.l command share a.at_lane c differ) apart.0
+      (have-other (IsTakenBy command) w z lane tag tags (λ other differ. share-other w geometry.mediator lane tag other command share o differ) apart.0
       (All-tail (HasTag (IsTakenBy command) w lane) tag tags have)) apart.1)
 
   module _ (w : World) (laid : IsLaidOut host_bytes (length w.lanes) geometry) (fine : IsConsistentOfTags geometry w) (are : HasGroups geometry w.lanes) where

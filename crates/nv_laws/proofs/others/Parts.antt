@@ -7,7 +7,7 @@ use Rattle.nv_world_model.specs.Seat.{held_by, held_in}
 use Rattle.nv_world_model.specs.View.{guest_of_tag, is_tag_of, own_held, own_tag}
 use Rattle.nv_world_model.specs.World.{Ended, Flying, Free, Lane, Tag, Taken, tag_in}
 use Rattle.nv_world_model.proofs.Seats.{slice_get-set, slice_get-set-other}
-use Rattle.nv_laws.proofs.others.OneTag.{tag-elsewhere, tag-here}
+use Rattle.nv_laws_sound.proofs.Commands.{tag-elsewhere, tag-here}
 
 -- ---- whose a tag is
 

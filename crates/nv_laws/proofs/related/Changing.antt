@@ -6,7 +6,7 @@ use Rattle.std.proofs.lemmas.Bool.{cases_eq, ne_eqb}
 use Rattle.std.proofs.lemmas.List.Elements.{All-head, All-tail}
 use Rattle.nv_world_model.specs.World.{Lane, Tag, World, changed_at, tag_changed, tag_in, tag_of, with_tag, with_tags}
 use Rattle.nv_world_model.proofs.Seats.{slice_get-set-other}
-use Rattle.nv_laws.proofs.others.OneTag.{tag-here}
+use Rattle.nv_laws_sound.proofs.Commands.{tag-here}
 use Rattle.nv_laws_sound.proofs.CountedActs.{HasLane, lane-of}
 use Rattle.nv_laws_sound.proofs.Folds.{tag_of-other}
 use Rattle.nv_laws_sound.proofs.Retags.{with_tag-is}

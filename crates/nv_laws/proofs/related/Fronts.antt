@@ -1,7 +1,7 @@
 -- What discipline says of the front command of a queue: what it names is apart from the destinations of commands that are taken.
 use Rattle.std.proofs.Common.{◌≡◌, ℕ, zero, suc, ◌+◌, ◌*◌, ◌%◌, ◌<◌, ◌≤◌, Bool, true, false, cond, not, ◌&&◌, ◌||◌}
 use Rattle.std.proofs.Common.{◌==◌, List, [], ◌∷◌, ◌++◌, flat_map, map}
-use Rattle.std.proofs.Common.{slice_get, Option, Some, None, arith, refl, sym, ap, ◌∙◌, subst}
+use Rattle.std.proofs.Common.{slice_get, Option, Some, None, arith, refl, ap, ◌∙◌, subst}
 use Rattle.std.specs.List.{enumerate_from, list_any, range_with_len}
 use Rattle.std.proofs.lemmas.List.Concat.{flat_map-append}
 use Rattle.std.proofs.Math.Nat.{mod-eq_of_lt}
@@ -18,6 +18,7 @@ use Rattle.nv_world_model.specs.Geometry.{Guest, regions_of, shape_of}
 use Rattle.nv_world_model.specs.SetUp.{any_two}
 use Rattle.nv_world_model.specs.World.{World}
 use Rattle.nv_laws.proofs.others.ShownTags.{any-behind, any-front}
+use Rattle.nv_laws.proofs.related.Named.{any-numbered}
 use Rattle.nv_laws.proofs.related.Beginning.{awaits}
 use Rattle.nv_laws.proofs.related.Disciplines.{any-map, any-more, commands_of, name-meets, never-both, not-so}
 
@@ -31,19 +32,6 @@ any-flat p (xs ∷ xss) e =
       | true ↦ λ is any. any-front p xs (flat_map (λ ys. ys) xss) is
       | false ↦ λ is any. any-behind p xs (flat_map (λ ys. ys) xss) (any-flat p xss any)
     ]) refl e
-
-any-numbered : {X Y : Type 0} (p : Y → Bool) (f : ℕ × X → List Y) (from : ℕ) (xs : List X) (place : ℕ) (x : X) → slice_get xs place ≡ Some x
-    → list_any p (f (from + place, x)) ≡ true → list_any p (flat_map f (enumerate_from from xs)) ≡ true
-any-numbered p f from [] place x at lies = cc
-any-numbered p f from (y ∷ ys) zero x at lies =
-    let same : y ≡ x = cc in
-    let here : from + 0 ≡ from = omega arith in
-    any-front p (f (from, y)) (flat_map f (enumerate_from (from + 1) ys))
-    (subst (λ v. list_any p (f (from, v)) ≡ true) (sym same) (subst (λ n. list_any p (f (n, x)) ≡ true) here lies))
-any-numbered p f from (y ∷ ys) (suc place) x at lies =
-    let here : from + suc place ≡ from + 1 + place = omega arith in
-    any-behind p (f (from, y)) (flat_map f (enumerate_from (from + 1) ys))
-    (any-numbered p f (from + 1) ys place x at (subst (λ n. list_any p (f (n, x)) ≡ true) here lies))
 
 any-first : {X : Type 0} (p : X → Bool) (f : ℕ → X) (n : ℕ) → 0 < n → p (f 0) ≡ true → list_any p (map f (range_with_len 0 n)) ≡ true
 any-first p f zero some is = absurd (omega arith)

@@ -115,7 +115,7 @@ any-of p f (y ∷ ys) zero x at e =
     any-front p (f y) (flat_map f ys) (subst (λ z. list_any p (f z) ≡ true) (sym same) e)
 any-of p f (y ∷ ys) (suc i) x at e = any-behind p (f y) (flat_map f ys) (any-of p f ys i x at e)
 
-any-numbered : {X Y : Type 0} (p : Y → Bool) (f : ℕ × X → List Y) (from : ℕ) (xs : List X) (place : ℕ) (x : X) → slice_get xs place ≡ Some x
+pub any-numbered : {X Y : Type 0} (p : Y → Bool) (f : ℕ × X → List Y) (from : ℕ) (xs : List X) (place : ℕ) (x : X) → slice_get xs place ≡ Some x
     → list_any p (f (from + place, x)) ≡ true → list_any p (flat_map f (enumerate_from from xs)) ≡ true
 any-numbered p f from [] place x at lies = cc
 any-numbered p f from (y ∷ ys) zero x at lies =

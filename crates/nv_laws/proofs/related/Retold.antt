@@ -68,28 +68,29 @@ one-told geometry number guest lane leader tag t new w z changed there was now b
         subst (λ n. led other (tag_of x lane n) ≡ false) (sym (eqb-true b tag is))
         (ap (led other) here ∙ ap (is_that other) leads ∙ ne_eqb leader other (λ same. differ (sym same)))
 
+-- one of these tags of a lane or another
+pub by-touched : (lane : ℕ) (touched : ℕ → Bool) (P : (a b : ℕ) → Type 0) → ((b : ℕ) → touched b ≡ true → P lane b)
+    → ((a b : ℕ) → ((a ≡ lane) → touched b ≡ true → ⊥) → P a b) → (a b : ℕ) → P a b
+by-touched lane touched P one others a b =
+    elim (cases_eq a lane) [
+      | inr away ↦ others a b (λ same also. away same)
+      | inl same ↦ (elim (touched b) as (λ c. touched b ≡ c → P a b) [
+        | true ↦ λ is. subst (λ x. P x b) (sym same) (one b is)
+        | false ↦ λ is. others a b (λ here also. (let bad : true ≡ false = sym also ∙ is in cc))
+      ]) refl
+    ]
+
 module _ (geometry : Geometry) (number : ℕ) (guest : Guest) (w z : World) (fine : IsConsistent geometry w) (lane leader : ℕ) (touched : ℕ → Bool)
     (below : leader < tag_count) (told : IsRetold geometry number guest lane leader touched w z) (p : Private) (related : Related geometry number guest w p) where
   abbrev Away : (a b : ℕ) → Type 0
   Away a b = (a ≡ lane) → touched b ≡ true → ⊥
-
-  -- one of these tags or another
-  by-touched : (P : (a b : ℕ) → Type 0) → ((b : ℕ) → touched b ≡ true → P lane b) → ((a b : ℕ) → Away a b → P a b) → (a b : ℕ) → P a b
-  by-touched P one others a b =
-      elim (cases_eq a lane) [
-        | inr away ↦ others a b (λ same also. away same)
-        | inl same ↦ (elim (touched b) as (λ c. touched b ≡ c → P a b) [
-          | true ↦ λ is. subst (λ x. P x b) (sym same) (one b is)
-          | false ↦ λ is. others a b (λ here also. (let bad : true ≡ false = sym also ∙ is in cc))
-        ]) refl
-      ]
 
   -- ---- commands
 
   -- the tags of another command are the same
   other-led : (a other b : ℕ) → ((a ≡ lane) → (other ≡ leader) → ⊥) → led other (tag_of w a b) ≡ led other (tag_of z a b)
   other-led a other b apart =
-      by-touched (λ x y. ((x ≡ lane) → (other ≡ leader) → ⊥) → led other (tag_of w x y) ≡ led other (tag_of z x y))
+      by-touched lane touched (λ x y. ((x ≡ lane) → (other ≡ leader) → ⊥) → led other (tag_of w x y) ≡ led other (tag_of z x y))
       (λ y is away. told.before y other is (λ same. away refl same) ∙ sym (told.behind y other is (λ same. away refl same)))
       (λ x y away apart. ap (led other) (sym (told.tags x y away))) a b apart
 
@@ -134,7 +135,7 @@ module _ (geometry : Geometry) (number : ℕ) (guest : Guest) (w z : World) (fin
   other-member : (a b : ℕ) → ((a ≡ lane) → (b ≡ leader) → ⊥)
       → member_in (tag_of w a b) b number (rests_of geometry w a b) ≡ member_in (tag_of z a b) b number (rests_of geometry z a b)
   other-member a b apart =
-      by-touched (λ x y. ((x ≡ lane) → (y ≡ leader) → ⊥)
+      by-touched lane touched (λ x y. ((x ≡ lane) → (y ≡ leader) → ⊥)
       → member_in (tag_of w x y) y number (rests_of geometry w x y) ≡ member_in (tag_of z x y) y number (rests_of geometry z x y))
       (λ y is away.
       member-elsewhere (tag_of w lane y) y number (rests_of geometry w lane y) (told.before y y is (λ same. away refl same))
@@ -205,8 +206,8 @@ module _ (geometry : Geometry) (number : ℕ) (guest : Guest) (w z : World) (fin
           marks = (λ lba inside. related.marks lba inside ∙ sym (ap (λ k. k (place_in guest.namespace lba)) told.kept));
           memory = (λ addr mapped none.
               related.memory addr mapped
-              (by-touched (λ a b. Hides w a b addr ≡ false) (λ b touched. hidden b addr touched (none lane b)) (λ a b away. other-hides a b addr away ∙ none a b))
+              (by-touched lane touched (λ a b. Hides w a b addr ≡ false) (λ b touched. hidden b addr touched (none lane b)) (λ a b away. other-hides a b addr away ∙ none a b))
               ∙ ap (λ m. m addr) told.memory);
           bag = told-bag is;
-          tags = by-touched TagIs each other-is;
+          tags = by-touched lane touched TagIs each other-is;
         }

@@ -2,10 +2,9 @@
 use Rattle.std.proofs.Common.{◌≡◌, ℕ, ◌^◌, ◌<◌, Bool, true, false, cond, ◌||◌, ◌==◌, List, [], ◌∷◌, All, filter, map, Some, arith, refl, sym, ap, ◌∙◌}
 use Rattle.std.specs.List.{enumerate_from, list_any}
 use Rattle.std.proofs.lemmas.List.Elements.{All-head, All-tail}
-use Rattle.nv_entry.proofs.CompletionLemmas.{bit-lt}
-use Rattle.nv_entry.specs.Completion.{completion, dnr_of, sc_of, sct_of, status_of}
-use Rattle.nv_entry.specs.Layout.{bits, bytes_of_dwords, dword, number_at}
-use Rattle.nv_entry.specs.Status.{StatusField, bit, status}
+use Rattle.nv_entry.proofs.CompletionLemmas.{completion-back}
+use Rattle.nv_entry.specs.Completion.{completion, status_of}
+use Rattle.nv_entry.specs.Status.{StatusField}
 use Rattle.nv_model.specs.Judge.{Work, form_of}
 use Rattle.nv_model.specs.Private.{AtWork, Progress, ending, moved_status, numbers_of}
 use Rattle.nv_world_model.specs.Plan.{Plan}
@@ -80,34 +79,6 @@ group-ends work sts each =
     at_work left differed = AtWork work left differed
 
 -- ---- completions
-
-completion-sct : (dw0 sqhd sqid cid : ℕ) (phase : Bool) (st : StatusField) → cid < 2 ^ 16 → st.sct < 8 → st.sc < 256
-    → sct_of (completion dw0 sqhd sqid cid phase st) ≡ st.sct
-unfolding completion bits dword number_at bytes_of_dwords
-completion-sct dw0 sqhd sqid cid phase st below type code = (let p = bit-lt phase in let d = bit-lt st.dnr in omega arith)
-
-completion-sc : (dw0 sqhd sqid cid : ℕ) (phase : Bool) (st : StatusField) → cid < 2 ^ 16 → st.sct < 8 → st.sc < 256
-    → sc_of (completion dw0 sqhd sqid cid phase st) ≡ st.sc
-unfolding completion bits dword number_at bytes_of_dwords
-completion-sc dw0 sqhd sqid cid phase st below type code = (let p = bit-lt phase in let d = bit-lt st.dnr in omega arith)
-
-completion-dnr : (dw0 sqhd sqid cid : ℕ) (phase : Bool) (st : StatusField) → cid < 2 ^ 16 → st.sct < 8 → st.sc < 256
-    → dnr_of (completion dw0 sqhd sqid cid phase st) ≡ bit st.dnr
-unfolding completion bits dword number_at bytes_of_dwords
-completion-dnr dw0 sqhd sqid cid phase st below type code = (let p = bit-lt phase in let d = bit-lt st.dnr in omega arith)
-
-bit-is : (b : Bool) → (bit b == 1) ≡ b
-bit-is true = refl
-bit-is false = refl
-
--- a status is read back from its completion, whatever queue and head stand there
-completion-back : (dw0 sqhd sqid cid : ℕ) (phase : Bool) (st : StatusField) → cid < 2 ^ 16 → st.sct < 8 → st.sc < 256
-    → status_of (completion dw0 sqhd sqid cid phase st) ≡ st
-completion-back dw0 sqhd sqid cid phase st below type code =
-    let entry = completion dw0 sqhd sqid cid phase st in
-    ap (λ (n : ℕ). status n (sc_of entry) (dnr_of entry == 1)) (completion-sct dw0 sqhd sqid cid phase st below type code)
-    ∙ ap (λ (n : ℕ). status st.sct n (dnr_of entry == 1)) (completion-sc dw0 sqhd sqid cid phase st below type code)
-    ∙ ap (status st.sct st.sc) (ap (λ (n : ℕ). n == 1) (completion-dnr dw0 sqhd sqid cid phase st below type code) ∙ bit-is st.dnr)
 
 pub moved-back : (dw0 sqhd sqid cid : ℕ) (phase differed : Bool) → cid < 2 ^ 16
     → status_of (completion dw0 sqhd sqid cid phase (moved_status differed)) ≡ moved_status differed

@@ -120,16 +120,11 @@ module _ (host_bytes : ℕ) (geometry : Geometry) (number : ℕ) (guest : Guest)
         group-first geometry w lane tag l.l (Taken command reads) command n rest l.at (reached.consistent.groups lane l.l l.at) l.found refl
         (eqb-true command.leader tag leads) same
 
-    -- ---- a command is given up
+    -- ---- a command ends at once
 
-    given_up-made : private_step (shape_of guest) (GiveUpStep name) p
-        ≡ unseen (record p { bag = put p.bag name (Some (taken (EndedWith (done_with InternalError)))) })
-    unfolding private_step
-    given_up-made = ap (λ o. with_taken o (λ t. given_up_at t.progress name t p)) taken-is
-
-    module _ (rest : List ℕ) (is : group w lane tag ≡ tag ∷ rest) where
+    module _ (status : StatusField) (rest : List ℕ) (is : group w lane tag ≡ tag ∷ rest) where
       abbrev failed : Tag
-      failed = Ended command (done_with InternalError) None
+      failed = Ended command status None
 
       abbrev others : Tag
       others = Ended command (done_with Success) None
@@ -149,7 +144,7 @@ module _ (host_bytes : ℕ) (geometry : Geometry) (number : ℕ) (guest : Guest)
           let was = group-taken b (ap (λ ns. touched ns b) is ∙ among) in
           (elim (touched rest b) as (λ c. touched rest b ≡ c → (st : StatusField) × (tag_of behind lane b ≡ Some (Ended command st None))) [
             | true ↦ λ later. (let u = still b was.t was.is in (done_with Success, with_tags-here lane rest others first b u.0 later u.1))
-            | false ↦ λ never. (done_with InternalError, front b among never)
+            | false ↦ λ never. (status, front b among never)
           ]) refl
         where
           still : (b : ℕ) (t : Tag) → tag_of w lane b ≡ Some t → (u : Tag) × (tag_of first lane b ≡ Some u)
@@ -202,41 +197,49 @@ module _ (host_bytes : ℕ) (geometry : Geometry) (number : ℕ) (guest : Guest)
               by true = refl
               by false = any
 
-      given_up-related : Related geometry number guest behind
-          (record p { bag = put p.bag name (Some (taken (EndedWith (done_with InternalError)))) })
-      given_up-related =
+      at_once-related : Related geometry number guest behind (record p { bag = put p.bag name (Some (taken (EndedWith status))) })
+      at_once-related =
           retag-related geometry number guest w behind reached.consistent lane tag (touched (tag ∷ rest)) (tag-below (Taken command reads) there) retold p related
-          (Some (taken (EndedWith (done_with InternalError)))) p.controller
+          (Some (taken (EndedWith status))) p.controller
           (ap (λ (z : World). slice_get z.controllers number) (with_tags-rest lane rest others first) ∙ related.controller)
           (λ b addr among none.
           (let was = group-taken b (ap (λ ns. touched ns b) is ∙ among) in
           hides-nothing number (tag_of w lane b) (Taken command was.has.reads) (own_held number (tag_of w lane b) (device_of w lane b)) addr
           (was.is ∙ ap (λ x. Some x) was.has.is) refl))
           (sym (ap (λ o. member_in o tag number (rests_of geometry behind lane tag)) leader-ends
-          ∙ member-mine tag number command (EndedWith (done_with InternalError)) leads mine))
+          ∙ member-mine tag number command (EndedWith status) leads mine))
           (λ b among.
           (let now = each-ends b among in
           own-as number (tag_of behind lane b) (Ended command now.0 None)
           (λ o. IsTagRelated o guest (own_held number (tag_of behind lane b) (device_of behind lane b)) (status_in geometry behind lane) (bounce_page geometry.mediator lane b) behind.host p.memory)
           now.1 mine tt))
 
-      given_up-goes : GoesAlong geometry number guest (event.GiveUp lane tag) w p (replied reply.Done behind)
-      given_up-goes =
-          one-goes geometry number guest (event.GiveUp lane tag) w behind p
-          (record p { bag = put p.bag name (Some (taken (EndedWith (done_with InternalError)))) }) (GiveUpStep name) refl
-          (ap (λ o. cond (is_tag_of number o) (GiveUpStep name ∷ []) []) there ∙ ap (λ b. cond b (GiveUpStep name ∷ []) []) mine) given_up-made given_up-related
-
-    pub give_up-goes : GoesAlong geometry number guest (event.GiveUp lane tag) w p
-        (replied reply.Done (ended_at_once lane (group w lane tag) command (done_with InternalError) w))
-    give_up-goes = by (group w lane tag) refl
+    pub ended-related : (status : StatusField) → Related geometry number guest (ended_at_once lane (group w lane tag) command status w)
+        (record p { bag = put p.bag name (Some (taken (EndedWith status))) })
+    ended-related status = by (group w lane tag) refl
       where
         by : (ns : List ℕ) → group w lane tag ≡ ns
-            → GoesAlong geometry number guest (event.GiveUp lane tag) w p (replied reply.Done (ended_at_once lane ns command (done_with InternalError) w))
+            → Related geometry number guest (ended_at_once lane ns command status w) (record p { bag = put p.bag name (Some (taken (EndedWith status))) })
         by [] same = absurd (group-some w lane tag l.l (Taken command reads) command l.at l.found refl (eqb-true command.leader tag leads) same)
         by (n ∷ rest) same =
             let begins = group-begins n rest same in
-            subst (λ m. GoesAlong geometry number guest (event.GiveUp lane tag) w p (replied reply.Done (ended_at_once lane (m ∷ rest) command (done_with InternalError) w)))
-            (sym begins) (given_up-goes rest (same ∙ ap (λ m. m ∷ rest) begins))
+            subst (λ m. Related geometry number guest (ended_at_once lane (m ∷ rest) command status w) (record p { bag = put p.bag name (Some (taken (EndedWith status))) }))
+            (sym begins) (at_once-related status rest (same ∙ ap (λ m. m ∷ rest) begins))
+
+    -- ---- a command is given up
+
+    given_up-made : private_step (shape_of guest) (GiveUpStep name) p
+        ≡ unseen (record p { bag = put p.bag name (Some (taken (EndedWith (done_with InternalError)))) })
+    unfolding private_step
+    given_up-made = ap (λ o. with_taken o (λ t. given_up_at t.progress name t p)) taken-is
+
+    pub give_up-goes : GoesAlong geometry number guest (event.GiveUp lane tag) w p
+        (replied reply.Done (ended_at_once lane (group w lane tag) command (done_with InternalError) w))
+    give_up-goes =
+        one-goes geometry number guest (event.GiveUp lane tag) w (ended_at_once lane (group w lane tag) command (done_with InternalError) w) p
+        (record p { bag = put p.bag name (Some (taken (EndedWith (done_with InternalError)))) }) (GiveUpStep name) refl
+        (ap (λ o. cond (is_tag_of number o) (GiveUpStep name ∷ []) []) there ∙ ap (λ b. cond b (GiveUpStep name ∷ []) []) mine) given_up-made
+        (ended-related (done_with InternalError))
 
   -- whose a tag is
   pub taken-mine : (command : Command) (reads : List ReadDone) → guest_of_one (tag_of w lane tag) ≡ Some number → tag_of w lane tag ≡ Some (Taken command reads)

@@ -10,10 +10,8 @@ use Rattle.nv_entry.specs.Submission.{opcode_of, slba_of}
 use Rattle.nv_mem.specs.GuestMap.{mapped}
 use Rattle.nv_mem.specs.Places.{places_of, total_len}
 use Rattle.nv_mem.specs.declared.region.Region.{Region}
-use Rattle.nv_ns.specs.Extents.{Cut, Namespace, Placed, blocks_in, cuts, placed}
+use Rattle.nv_ns.specs.Extents.{Cut, Namespace, Placed, blocks_in, placed}
 use Rattle.nv_ns.specs.Laws.{NamesBlocks}
-use Rattle.nv_ns.proofs.CutWalk.{cuts-walk}
-use Rattle.nv_ns.proofs.Spelled.{walk-some}
 use Rattle.nv_model.specs.Judge.{ClearBlock, Clear, Form, KeepAll, Keep, Manage, MoveBlock, Transfer, Work, count_of, deallocates}
 use Rattle.nv_model.specs.Judge.{form_of, form_units, has_blocks, is_fua, range_units}
 use Rattle.nv_model.specs.Laws.{IsMappedPiece}
@@ -27,20 +25,21 @@ use Rattle.nv_prp.specs.Fits.{places_fit}
 use Rattle.nv_world_model.specs.Geometry.{Guest, regions_of, shape_of}
 use Rattle.nv_world_model.specs.Plan.{Bounced, Direct, NoData, Plan, go_plan, transfer_plan}
 use Rattle.nv_world_model.specs.Share.{Share, block_share, numbers_met, range_share, ranges_met, shares_by, shares_of}
-use Rattle.nv_world_model.specs.Share.{cut_pieces, units_at, whole_share, with_work}
+use Rattle.nv_world_model.specs.Share.{cut_pieces, unit_behind, units_at, whole_share, with_work}
 use Rattle.nv_world_model.proofs.ShareParts.{range-get, run_work, window-window}
 use Rattle.nv_world_model.proofs.CutPieces.{places_of-cut_pieces}
+use Rattle.nv_world_model.proofs.OwnUnits.{FitsFields-small, units_at-met}
+use Rattle.nv_world_model.proofs.ShareUnits.{units-get, units-size}
 use Rattle.nv_world_model.proofs.Windows.{window}
 use Rattle.nv_world_model.specs.ShareArea.{is_no_command}
 use Rattle.nv_world_model.specs.Seat.{work_of}
 use Rattle.nv_laws_sound.specs.Consistent.{IsPlanned}
-use Rattle.nv_laws_sound.proofs.OwnRows.{IsRangeRow, cuts-name, enumerated-all}
-use Rattle.nv_laws_sound.proofs.OwnWork.{IsRow, own-of, own_len}
+use Rattle.nv_laws_sound.proofs.OwnRows.{IsRangeRow, enumerated-all}
+use Rattle.nv_laws_sound.proofs.OwnWork.{IsRow, own-of, own_len, run-shares}
 use Rattle.nv_laws_sound.proofs.PlanSizes.{HasCount, go_plan-kinds, own-counts, own-few, own_work, planned-kinds}
 use Rattle.nv_laws.proofs.units.Flags.{end-fua}
 use Rattle.nv_laws.proofs.units.Growing.{met-grow, row-grow}
 use Rattle.nv_laws.proofs.units.Runs.{Grow}
-use Rattle.nv_laws.proofs.units.OwnCuts.{picked, picked-move, ranges-picked, units-size}
 
 -- ---- its units
 
@@ -79,6 +78,10 @@ cut-blocks work cut k n is =
     ∙ window-window (block * k) block (block * cut.first) (block * cut.count) (places_of work.pieces) (omega (arith, few))
     ∙ ap (λ m. take block (drop m (places_of work.pieces))) on
 
+-- a unit that moves a block
+picked-move : (first k lba : ℕ) → unit_behind first (MoveBlock (first + k) lba) ≡ MoveBlock k lba
+picked-move first k lba = let back : first + k - first ≡ k = omega arith in ap (λ (n : ℕ). MoveBlock n lba) back
+
 no-transfer : (dest : Bool) {A : Type 0} → Manage ≡ Transfer dest → A
 no-transfer dest bad = cc
 
@@ -105,7 +108,7 @@ move-cut dest guest entry plan work cut units names some =
       first = cut.first;
       units = (λ k below.
           (let few : k < cut.count = omega (arith, below, size) in
-          picked cut.first cut.count k work.units (MoveBlock (cut.first + k) (slba_of entry + (cut.first + k))) few (omega (arith, all, within))
+          units-get cut.first cut.count k work.units (MoveBlock (cut.first + k) (slba_of entry + (cut.first + k))) few (omega (arith, all, within))
           (ap (λ us. slice_get us (cut.first + k)) units ∙ move_units-at (slba_of entry) (count_of entry) (cut.first + k) (omega (arith, few, within)))
           ∙ ap Some (picked-move cut.first k (slba_of entry + (cut.first + k)))));
     }
@@ -130,26 +133,10 @@ clear-cut guest entry plan work cut units names some =
       first = cut.first;
       units = (λ k below.
           (let few : k < cut.count = omega (arith, below, size) in
-          picked cut.first cut.count k work.units (ClearBlock (slba_of entry + (cut.first + k)) (is_fua entry)) few (omega (arith, all, within))
+          units-get cut.first cut.count k work.units (ClearBlock (slba_of entry + (cut.first + k)) (is_fua entry)) few (omega (arith, all, within))
           (ap (λ us. slice_get us (cut.first + k)) units
           ∙ clear_units-at (is_fua entry) (slba_of entry) (count_of entry) (cut.first + k) (omega (arith, few, within)))));
     }
-
--- of all cuts
-run-cuts : (Q : Share → Type 0) (guest : Guest) (entry : List ℕ) (plan : Plan) (work : Work)
-    → ((cut : Cut) → NamesBlocks guest.namespace (slba_of entry) (count_of entry) cut → 0 < cut.count → Q (block_share plan work cut))
-    → All Q (map (block_share plan work) (cuts guest.namespace (slba_of entry) (count_of entry)))
-run-cuts Q guest entry plan work each =
-    let ns = guest.namespace in
-    let all : List Cut = cuts ns (slba_of entry) (count_of entry) in
-    let some : All (λ (cut : Cut). 0 < cut.count) all =
-    subst (All (λ (cut : Cut). 0 < cut.count)) (sym (cuts-walk ns (slba_of entry) (count_of entry))) (walk-some 0 ns (slba_of entry) (count_of entry)) in
-    All-map Q (block_share plan work) all
-    (All-weaker (Contains all) (λ cut. Q (block_share plan work cut))
-    (λ cut among. each cut
-    (All-contains (NamesBlocks ns (slba_of entry) (count_of entry)) all cut (cuts-name ns (slba_of entry) (count_of entry)) among)
-    (All-contains (λ (x : Cut). 0 < x.count) all cut some among))
-    all (All-contains_itself all))
 
 range-cut : (guest : Guest) (entry : List ℕ) (plan : Plan) (work : Work) (number : ℕ) (at : Placed)
     → IsSoundWork (mapped (regions_of guest)) (blocks_in guest.namespace) entry work → form_of work.opcode ≡ Manage
@@ -175,7 +162,8 @@ range-cut guest entry plan work number at sound form among =
       first = 0;
       units = (λ small.
           ap (λ us. units_at 0 us (numbers_met 0 at work.ranges)) units
-          ∙ ranges-picked guest.namespace small number at among (deallocates entry) work.ranges [] sound.fit);
+          ∙ units_at-met (deallocates entry) number at work.ranges
+          (FitsFields-small (blocks_in guest.namespace) work.ranges (omega (arith, small)) sound.fit));
     }
 
 range-cuts : (guest : Guest) (entry : List ℕ) (plan : Plan) (work : Work)
@@ -194,11 +182,11 @@ shares-cut : (form : Form) (guest : Guest) (entry : List ℕ) (plan : Plan) (wor
     → IsSoundWork (mapped (regions_of guest)) (blocks_in guest.namespace) entry work → form_of work.opcode ≡ form
     → with_work plan work ≡ plan → All (IsCutOf form guest entry work) (shares_by form guest.namespace entry plan work)
 shares-cut (Transfer dest) guest entry plan work sound form same =
-    run-cuts (IsCutOf (Transfer dest) guest entry work) guest entry plan work
+    run-shares (IsCutOf (Transfer dest) guest entry work) guest entry plan work
     (λ cut names some. move-cut dest guest entry plan work cut
     (sound.units ∙ ap (λ f. form_units f (blocks_in guest.namespace) entry work.ranges) form) names some)
 shares-cut Clear guest entry plan work sound form same =
-    run-cuts (IsCutOf Clear guest entry work) guest entry plan work
+    run-shares (IsCutOf Clear guest entry work) guest entry plan work
     (λ cut names some. clear-cut guest entry plan work cut
     (sound.units ∙ ap (λ f. form_units f (blocks_in guest.namespace) entry work.ranges) form) names some)
 shares-cut Manage guest entry plan work sound form same = range-cuts guest entry plan work sound form

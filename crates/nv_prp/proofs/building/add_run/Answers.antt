@@ -1,6 +1,6 @@
 use Rattle.std.proofs.Common.{◌+◌, ◌-◌, ◌<◌, ◌≤◌, ◌^◌, arith}
 use Rattle.nv_prp.proofs.Builds.{Rows-end, Rows-next, Rows-room}
-use Rattle.nv_prp.proofs.HostRuns.{mapped-below, mapped-none, run-inside}
+use Rattle.nv_mem.proofs.MappedRuns.{mapped-below, mapped-none, run-inside}
 use Rattle.nv_prp.proofs.building.add_run.Goals as goal
 
 pub overflow_add-addr : goal.overflow_add-addr

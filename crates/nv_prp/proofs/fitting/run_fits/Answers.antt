@@ -1,7 +1,8 @@
 use Rattle.std.proofs.Common.{◌+◌, ◌-◌, ◌<◌, ◌≤◌, ◌^◌, ◌&&◌, Bool, ◌++◌, Some, arith, sym, ap, ◌∙◌}
 use Rattle.nv_mem.specs.Places.{addresses}
 use Rattle.nv_prp.specs.Fits.{fit_behind, hosts_of}
-use Rattle.nv_prp.proofs.HostRuns.{fit_behind-run, hosts_of-none, mapped-below, mapped-none, run-inside}
+use Rattle.nv_mem.proofs.MappedRuns.{mapped-below, mapped-none, run-inside}
+use Rattle.nv_prp.proofs.HostRuns.{fit_behind-run, hosts_of-none}
 use Rattle.nv_prp.proofs.fitting.run_fits.Goals as goal
 
 pub overflow_add-addr : goal.overflow_add-addr

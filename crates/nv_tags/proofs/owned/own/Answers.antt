@@ -2,7 +2,7 @@ use Rattle.std.proofs.Common.{arith}
 use Rattle.nv_tags.proofs.Owners.{with-mask}
 use Rattle.nv_tags.proofs.owned.own.Goals as goal
 
-pub returns-then-guest-lt-MOST_GUESTS-clause-bits :
-    goal.returns-then-guest-lt-MOST_GUESTS-clause-bits
-returns-then-guest-lt-MOST_GUESTS-clause-bits c =
-    with-mask c.args.owned.now c.from.result c.args.guest c.args.mask c.from.ensures (omega arith)
+pub returns-then-at-lt-NUMBER_COUNT-clause-bits :
+    goal.returns-then-at-lt-NUMBER_COUNT-clause-bits
+returns-then-at-lt-NUMBER_COUNT-clause-bits c =
+    with-mask c.args.masks.now c.from-at.result c.args.number c.args.mask c.from-at.ensures (omega arith)

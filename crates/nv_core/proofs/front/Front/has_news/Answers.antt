@@ -1,4 +1,4 @@
-use Rattle.std.proofs.Common.{◌≡◌, ◌∙◌, ◌∷◌, ◌||◌, ℕ, List, [], Bool, Option, None, Some, MatchOption, true, false, is_some, length, nat_lt, slice_get, arith, ap, refl, sym}
+use Rattle.std.proofs.Common.{◌≡◌, ◌∙◌, ◌∷◌, ◌||◌, ℕ, List, [], Bool, Option, None, Some, MatchOption, true, false, is_some, length, nat_lt, slice_get, arith, ap, sym}
 use Rattle.std.proofs.lemmas.Bool.{lt-ltb}
 use Rattle.nv_core.specs.Reaping.{waits_in}
 use Rattle.nv_core.specs.Tags.{ended_in}

@@ -1,9 +1,8 @@
-use Rattle.std.proofs.Common.{◌≡◌, ◌<◌, ◌≤◌, ◌∙◌, Option, arith, ap, length, slice_get, sym}
+use Rattle.std.proofs.Common.{◌<◌, ◌≤◌, ◌∙◌, arith, ap, length, slice_get, sym}
 use Rattle.std.proofs.lemmas.Option.{slice_get_past}
 use Rattle.nv_core.proofs.GroupWorlds.{looked-up}
 use Rattle.nv_core.specs.Front.{Side}
 use Rattle.nv_core.specs.Noted.{has_front}
-use Rattle.nv_model.specs.Controller.{Controller}
 use Rattle.nv_core.proofs.front.Front.waits.Goals as goal
 
 pub returns-then-number-len : goal.returns-then-number-len

@@ -5,7 +5,8 @@ use Rattle.nv_entry.specs.Submission.{slba_of}
 use Rattle.nv_entry.specs.declared.opcode.IoOpcode.{IoOpcode}
 use Rattle.nv_disk.specs.Flat.{moved_of}
 use Rattle.nv_model.specs.Carrying.{cleared}
-use Rattle.nv_flat.specs.One.{HasFieldsInOrder, IsRun}
+use Rattle.nv_judge.specs.Need.{HasFieldsInOrder}
+use Rattle.nv_flat.specs.One.{IsRun}
 use Rattle.nv_flat.proofs.DoneLemmas.{flush-run, zeroes-run}
 use Rattle.nv_flat.proofs.controller.FlatController.run.Goals as goal
 

@@ -1,12 +1,13 @@
 use Rattle.std.proofs.Common.{◌≡◌, ◌<◌, ℕ, [], ◌∷◌, length, true, ap, arith, refl, slice_index_or, subst, sym, ◌∙◌}
-use Rattle.nv_tags.specs.Kept.{IsWith, IsWithout, is_ended_state, is_free_at, is_taken_state}
+use Rattle.nv_tags.specs.Numbers.{ByGuest, ByQueue}
+use Rattle.nv_tags.specs.Kept.{AreWith, IsWith, IsWithout, is_ended_state, is_free_at, is_taken_state}
 use Rattle.nv_tags.specs.Tags.{is_free_state}
 use Rattle.nv_tags.specs.declared.state.TagState.TheVariants as state
 use Rattle.nv_tags.proofs.Groups.{AreKept-claimed}
 use Rattle.nv_tags.proofs.Lowest.{first-seen}
 use Rattle.nv_tags.proofs.Marks.{free-not, mask-holds, mask-same, mask-with, mask-without}
 use Rattle.nv_tags.proofs.Masks.{is_set}
-use Rattle.nv_tags.proofs.Owners.{owned-claimed}
+use Rattle.nv_tags.proofs.Owners.{numbered-claimed}
 use Rattle.nv_tags.proofs.Slots.{claimed-seen}
 use Rattle.nv_tags.proofs.Together.{its-leader}
 use Rattle.nv_tags.proofs.tags.Tags.claim.Goals as goal
@@ -46,9 +47,13 @@ invariant_of-self c =
         ended_are = mask-same is_ended_state c.self.inside.states c.self.inside.ended c.from-at.result state.Taken c.self.invariant.1.ended_are within refl
             (free-not (slice_index_or c.self.inside.states c.from-at.result state.Free) idle).1;
       },
-      owned-claimed c.self.inside.states c.self.inside.claims c.self.inside.leaders c.self.inside.groups c.self.invariant.0 c.self.inside.owned c.own.new.owned
-          c.self.invariant.2 c.args.claim c.in_ok-tag.tag c.from-at.result c.with.result below idle
-          (subst (λ (n : ℕ). IsWith 0 n c.with.result) (sym same) c.with.ensures) c.own.ensures.size c.own.ensures.bits,
+      numbered-claimed ByGuest c.self.inside.states c.self.inside.claims c.self.inside.leaders c.self.inside.groups c.self.invariant.0 c.self.inside.owned
+          c.own.new.masks c.self.invariant.2 c.args.claim c.in_ok-tag.tag c.from-at.result c.with-only.result below idle
+          (subst (λ (n : ℕ). IsWith 0 n c.with-only.result) (sym same) c.with-only.ensures) c.own.ensures.size
+          (subst (λ (n : ℕ). AreWith c.self.inside.owned n c.with-only.result c.own.new.masks) c.from-guest.ensures c.own.ensures.bits),
+      numbered-claimed ByQueue c.self.inside.states c.self.inside.claims c.self.inside.leaders c.self.inside.groups c.self.invariant.0 c.self.inside.queued
+          c.own-2.new.masks c.self.invariant.3 c.args.claim c.in_ok-tag.tag c.from-at.result c.with-only.result below idle
+          (subst (λ (n : ℕ). IsWith 0 n c.with-only.result) (sym same) c.with-only.ensures) c.own-2.ensures.size c.own-2.ensures.bits,
     )
 
 pub returns-clause-some : goal.returns-clause-some

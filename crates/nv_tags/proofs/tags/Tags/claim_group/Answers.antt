@@ -1,10 +1,11 @@
-use Rattle.std.proofs.Common.{◌≡◌, ℕ, List, Some, slice_index_or, arith, refl, sym, ap, ◌∙◌}
-use Rattle.nv_tags.specs.Kept.{is_ended_state, is_taken_state, tags_in}
+use Rattle.std.proofs.Common.{◌≡◌, ℕ, List, Some, slice_index_or, arith, refl, sym, subst, ap, ◌∙◌}
+use Rattle.nv_tags.specs.Numbers.{ByGuest, ByQueue}
+use Rattle.nv_tags.specs.Kept.{AreWith, is_ended_state, is_taken_state, tags_in}
 use Rattle.nv_tags.specs.Tags.{command_of, is_free_state, leader_in, taken_by}
 use Rattle.nv_tags.specs.declared.state.TagState.TheVariants as state
 use Rattle.nv_tags.proofs.Lowest.{found-idle, lowest-seen}
 use Rattle.nv_tags.proofs.Marks.{among-mask, free-not, mask-joined, mask-none, mask-parted}
-use Rattle.nv_tags.proofs.Owners.{owned-grouped}
+use Rattle.nv_tags.proofs.Owners.{numbered-grouped}
 use Rattle.nv_tags.proofs.Together.{AreKept-taken, its-leader, leader-one, same-some, slots-taken, taken-one}
 use Rattle.nv_tags.proofs.tags.Tags.claim_group.Goals as goal
 
@@ -43,10 +44,22 @@ invariant_of-self c =
             (found-idle c.self.inside.states c.self.inside.free c.in_ok-mask.mask c.args.count c.self.invariant.0.states_are c.self.invariant.1.free_are
             c.in_ok-mask.ensures t below its)).1);
       },
-      owned-grouped c.self.inside.states c.self.inside.claims c.self.inside.leaders c.self.inside.groups c.self.invariant.0 c.self.inside.owned c.own.new.owned
+      numbered-grouped ByGuest c.self.inside.states c.self.inside.claims c.self.inside.leaders c.self.inside.groups c.self.invariant.0 c.self.inside.owned c.own.new.masks
           c.self.invariant.2 _ c.args.claim c.in-Some.leader c.in_ok-mask.mask c.of-2.result c.of-2.ensures
           (found-idle c.self.inside.states c.self.inside.free c.in_ok-mask.mask c.args.count c.self.invariant.0.states_are c.self.invariant.1.free_are
-          c.in_ok-mask.ensures) c.own.ensures.size c.own.ensures.bits
+          c.in_ok-mask.ensures) c.own.ensures.size
+          (subst (λ (n : ℕ). AreWith c.self.inside.owned n c.in_ok-mask.mask c.own.new.masks) c.from-2.ensures c.own.ensures.bits)
+          (slots-taken c.self.inside.states c.self.inside.claims c.self.inside.leaders c.self.inside.groups c.self.invariant.0
+          c.in-Some.leader c.in_ok-mask.mask c.without.result c.in-Some.ensures.there
+          (its-leader c.in_ok-mask.mask c.in-Some.leader c.of.result c.pop.new.self c.of.ensures c.in-Some.ensures.lowest c.in-Some.ensures.there)
+          c.without.ensures
+          (found-idle c.self.inside.states c.self.inside.free c.in_ok-mask.mask c.args.count c.self.invariant.0.states_are c.self.invariant.1.free_are
+          c.in_ok-mask.ensures)
+          c.of-2.result c.of-2.ensures c.args.claim),
+      numbered-grouped ByQueue c.self.inside.states c.self.inside.claims c.self.inside.leaders c.self.inside.groups c.self.invariant.0 c.self.inside.queued c.own-2.new.masks
+          c.self.invariant.3 _ c.args.claim c.in-Some.leader c.in_ok-mask.mask c.of-2.result c.of-2.ensures
+          (found-idle c.self.inside.states c.self.inside.free c.in_ok-mask.mask c.args.count c.self.invariant.0.states_are c.self.invariant.1.free_are
+          c.in_ok-mask.ensures) c.own-2.ensures.size c.own-2.ensures.bits
           (slots-taken c.self.inside.states c.self.inside.claims c.self.inside.leaders c.self.inside.groups c.self.invariant.0
           c.in-Some.leader c.in_ok-mask.mask c.without.result c.in-Some.ensures.there
           (its-leader c.in_ok-mask.mask c.in-Some.leader c.of.result c.pop.new.self c.of.ensures c.in-Some.ensures.lowest c.in-Some.ensures.there)

@@ -1,11 +1,12 @@
 use Rattle.std.proofs.Common.{ℕ, refl, arith, sym, subst}
 use Rattle.nv_tags.specs.Tags.{Ended}
 use Rattle.nv_tags.specs.declared.state.TagState.TheVariants as state
+use Rattle.nv_tags.specs.Numbers.{ByGuest, ByQueue}
 use Rattle.nv_tags.specs.Tags.{is_free_state}
 use Rattle.nv_tags.specs.Kept.{IsWith, IsWithout, is_ended_state, is_taken_state}
 use Rattle.nv_tags.proofs.Groups.{AreKept-moved}
 use Rattle.nv_tags.proofs.Marks.{mask-same, mask-with, mask-without}
-use Rattle.nv_tags.proofs.Owners.{owned-point}
+use Rattle.nv_tags.proofs.Owners.{numbered-point}
 use Rattle.nv_tags.proofs.Slots.{busy-seen, going-used, moved-seen, there}
 use Rattle.nv_tags.proofs.tags.Tags.end.Goals as goal
 
@@ -40,8 +41,12 @@ invariant_of-self c =
         ended_are = mask-with is_ended_state c.self.inside.states c.self.inside.ended c.from.result (state.Ended c.args.status) c.self.invariant.1.ended_are (omega (arith, below, all))
             c.with-self-inside.result refl (subst (λ (n : ℕ). IsWith c.self.inside.ended n c.with-self-inside.result) (sym c.from.ensures) c.with-self-inside.ensures);
       },
-      owned-point c.self.inside.states c.self.inside.claims c.self.inside.leaders c.self.inside.groups c.self.invariant.0
+      numbered-point ByGuest c.self.inside.states c.self.inside.claims c.self.inside.leaders c.self.inside.groups c.self.invariant.0
           c.self.inside.owned c.self.inside.owned c.self.invariant.2 c.from.result below c.args.self.now c.args.tag c.self.view_is c.from.ensures (Ended c.args.status) (state.Ended c.args.status)
+          (moved-seen c.self.inside.states c.self.inside.claims c.self.inside.leaders c.self.inside.groups c.self.invariant.0 c.args.self.now c.self.view_is
+          c.args.tag c.from.result c.from.ensures (Ended c.args.status) (state.Ended c.args.status) (λ command. refl) (going-used c.args.self.now c.args.tag c.requires.going)),
+      numbered-point ByQueue c.self.inside.states c.self.inside.claims c.self.inside.leaders c.self.inside.groups c.self.invariant.0
+          c.self.inside.queued c.self.inside.queued c.self.invariant.3 c.from.result below c.args.self.now c.args.tag c.self.view_is c.from.ensures (Ended c.args.status) (state.Ended c.args.status)
           (moved-seen c.self.inside.states c.self.inside.claims c.self.inside.leaders c.self.inside.groups c.self.invariant.0 c.args.self.now c.self.view_is
           c.args.tag c.from.result c.from.ensures (Ended c.args.status) (state.Ended c.args.status) (λ command. refl) (going-used c.args.self.now c.args.tag c.requires.going)),
     )

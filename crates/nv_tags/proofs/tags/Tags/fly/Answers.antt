@@ -1,11 +1,12 @@
 use Rattle.std.proofs.Common.{ℕ, refl, arith, sym, subst, ◌∙◌, slice_index_or}
 use Rattle.nv_tags.specs.Tags.{Flying}
 use Rattle.nv_tags.specs.declared.state.TagState.TheVariants as state
+use Rattle.nv_tags.specs.Numbers.{ByGuest, ByQueue}
 use Rattle.nv_tags.specs.Tags.{is_free_state}
 use Rattle.nv_tags.specs.Kept.{IsWithout, is_ended_state, is_taken_state}
 use Rattle.nv_tags.proofs.Groups.{AreKept-moved}
 use Rattle.nv_tags.proofs.Marks.{mask-same, mask-without, unended-taken}
-use Rattle.nv_tags.proofs.Owners.{owned-point}
+use Rattle.nv_tags.proofs.Owners.{numbered-point}
 use Rattle.nv_tags.proofs.Slots.{busy-seen, taken-used, moved-seen, state-seen, there}
 use Rattle.nv_tags.proofs.tags.Tags.fly.Goals as goal
 
@@ -41,8 +42,12 @@ invariant_of-self c =
             (unended-taken (slice_index_or c.self.inside.states c.from.result state.Free)
             (state-seen c.self.inside.states c.self.inside.claims c.self.inside.leaders c.self.inside.groups c.self.invariant.0 c.args.self.now c.self.view_is c.args.tag c.from.result c.from.ensures state.Free below ∙ c.requires.taken));
       },
-      owned-point c.self.inside.states c.self.inside.claims c.self.inside.leaders c.self.inside.groups c.self.invariant.0
+      numbered-point ByGuest c.self.inside.states c.self.inside.claims c.self.inside.leaders c.self.inside.groups c.self.invariant.0
           c.self.inside.owned c.self.inside.owned c.self.invariant.2 c.from.result below c.args.self.now c.args.tag c.self.view_is c.from.ensures Flying state.Flying
+          (moved-seen c.self.inside.states c.self.inside.claims c.self.inside.leaders c.self.inside.groups c.self.invariant.0 c.args.self.now c.self.view_is
+          c.args.tag c.from.result c.from.ensures Flying state.Flying (λ command. refl) (taken-used c.args.self.now c.args.tag c.requires.taken)),
+      numbered-point ByQueue c.self.inside.states c.self.inside.claims c.self.inside.leaders c.self.inside.groups c.self.invariant.0
+          c.self.inside.queued c.self.inside.queued c.self.invariant.3 c.from.result below c.args.self.now c.args.tag c.self.view_is c.from.ensures Flying state.Flying
           (moved-seen c.self.inside.states c.self.inside.claims c.self.inside.leaders c.self.inside.groups c.self.invariant.0 c.args.self.now c.self.view_is
           c.args.tag c.from.result c.from.ensures Flying state.Flying (λ command. refl) (taken-used c.args.self.now c.args.tag c.requires.taken)),
     )

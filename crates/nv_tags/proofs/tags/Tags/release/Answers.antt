@@ -1,10 +1,11 @@
 use Rattle.std.proofs.Common.{◌≡◌, ℕ, ap, refl, slice_index, slice_index_or, subst, sym, ◌∙◌, arith}
 use Rattle.nv_tags.specs.Kept.{AreWithout, IsWith, IsWithout, is_ended_state, is_taken_state}
+use Rattle.nv_tags.specs.Numbers.{ByGuest, ByQueue}
 use Rattle.nv_tags.specs.Tags.{is_free_state}
 use Rattle.nv_tags.specs.declared.state.TagState.TheVariants as state
 use Rattle.nv_tags.proofs.Marks.{mask-with, mask-without}
 use Rattle.nv_tags.proofs.Groups.{AreKept-released}
-use Rattle.nv_tags.proofs.Owners.{owned-free}
+use Rattle.nv_tags.proofs.Owners.{numbered-free}
 use Rattle.nv_tags.proofs.Slots.{inside, released-seen, there}
 use Rattle.nv_tags.proofs.tags.Tags.release.Goals as goal
 
@@ -52,13 +53,20 @@ invariant_of-self c =
             c.without-self-inside-2.result refl
             (subst (λ (n : ℕ). IsWithout c.self.inside.ended n c.without-self-inside-2.result) (sym c.from-2.ensures) c.without-self-inside-2.ensures);
       },
-      owned-free c.self.inside.states c.self.inside.claims c.self.inside.leaders c.self.inside.groups c.self.invariant.0 c.self.inside.owned c.disown.new.owned
-          c.self.invariant.2 c.from-2.result below _ c.index-self-from-2.result
+      numbered-free ByGuest c.self.inside.states c.self.inside.claims c.self.inside.leaders c.self.inside.groups c.self.invariant.0 c.self.inside.owned
+          c.disown.new.masks c.self.invariant.2 c.from-2.result below _ c.index-self-from-2.result
           (inside c.self.inside.states c.self.inside.claims c.self.inside.leaders c.self.inside.groups c.self.invariant.0 c.args.self.now c.self.view_is c.args.tag c.from-2.result c.from-2.ensures c.requires.used)
           c.disown.ensures.size
-          (ap (λ (n : ℕ). (slice_index_or c.self.inside.claims n c.index-self-from-2.result).guest) (c.from-3.ensures ∙ sym c.from-2.ensures))
+          (c.from-guest.ensures
+          ∙ ap (λ (n : ℕ). (slice_index_or c.self.inside.claims n c.index-self-from-2.result).guest) (c.from-3.ensures ∙ sym c.from-2.ensures))
+          (subst (λ (n : ℕ). AreWithout c.self.inside.owned c.from-guest.result n c.disown.new.masks) (sym c.from-2.ensures) c.disown.ensures.bits),
+      numbered-free ByQueue c.self.inside.states c.self.inside.claims c.self.inside.leaders c.self.inside.groups c.self.invariant.0 c.self.inside.queued
+          c.disown-2.new.masks c.self.invariant.3 c.from-2.result below _ c.index-self-from-2.result
+          (inside c.self.inside.states c.self.inside.claims c.self.inside.leaders c.self.inside.groups c.self.invariant.0 c.args.self.now c.self.view_is c.args.tag c.from-2.result c.from-2.ensures c.requires.used)
+          c.disown-2.ensures.size
+          (ap (λ (n : ℕ). (slice_index_or c.self.inside.claims n c.index-self-from-2.result).queue) (c.from-3.ensures ∙ sym c.from-2.ensures))
           (subst (λ (n : ℕ).
-          AreWithout c.self.inside.owned (slice_index_or c.self.inside.claims c.from-3.result c.index-self-from-2.result).guest n c.disown.new.owned) (sym c.from-2.ensures) c.disown.ensures.bits),
+          AreWithout c.self.inside.queued (slice_index_or c.self.inside.claims c.from-3.result c.index-self-from-2.result).queue n c.disown-2.new.masks) (sym c.from-2.ensures) c.disown-2.ensures.bits),
     )
 
 pub without-self-inside-requires : goal.without-self-inside-requires
@@ -103,4 +111,11 @@ with-self-inside-requires c =
     let below = there c.self.inside.states c.self.inside.claims c.self.inside.leaders c.self.inside.groups c.self.invariant.0 c.args.self.now c.self.view_is
     c.args.tag c.from-2.result c.from-2.ensures c.requires.used in
     let same = c.from-2.ensures in
+    omega (arith, below, same)
+
+pub disown-requires-2 : goal.disown-requires-2
+disown-requires-2 c =
+    let below = there c.self.inside.states c.self.inside.claims c.self.inside.leaders c.self.inside.groups c.self.invariant.0 c.args.self.now c.self.view_is
+    c.args.tag c.from-3.result c.from-3.ensures c.requires.used in
+    let same = c.from-3.ensures in
     omega (arith, below, same)

@@ -1,11 +1,12 @@
 use Rattle.std.proofs.Common.{List, ◌∷◌, ℕ, ap, refl, sym, slice_index, slice_index_or, subst, ◌∙◌, ◌-◌, arith, set}
 use Rattle.std.specs.Prelude.{bit_and, bit_or}
-use Rattle.nv_tags.specs.Kept.{AreKept, AreOwned, AreWithout, IsMask, is_ended_state, is_taken_state, slots_of}
+use Rattle.nv_tags.specs.Kept.{AreKept, AreNumbered, AreWithout, IsMask, is_ended_state, is_taken_state, slots_of}
+use Rattle.nv_tags.specs.Numbers.{ByGuest, ByQueue}
 use Rattle.nv_tags.specs.Tags.{is_free_state, released}
 use Rattle.nv_tags.specs.declared.state.TagState.{TagState}
 use Rattle.nv_tags.specs.declared.state.TagState.TheVariants as state
 use Rattle.nv_tags.proofs.Marks.{among-freed, mask-joined, mask-parted}
-use Rattle.nv_tags.proofs.Owners.{owned-freed}
+use Rattle.nv_tags.proofs.Owners.{numbered-freed}
 use Rattle.nv_tags.proofs.Together.{AreKept-freed, leads-own, leads-there, slots-freed}
 use Rattle.nv_tags.proofs.tags.Tags.release_group.Goals as goal
 
@@ -71,18 +72,30 @@ invariant_of-self c = (
         (among-freed c.of.result (slice_index c.self.inside.groups c.from-at.result) c.with-freed.result c.from-at.result c.args.leader c.of.ensures
         c.from-at.ensures c.with-freed.ensures) state.Free refl (omega arith));
   },
-  subst (λ (states : List TagState). AreOwned (slots_of states c.self.inside.claims c.self.inside.leaders) c.free_each.new.owned)
+  subst (λ (states : List TagState). AreNumbered ByGuest (slots_of states c.self.inside.claims c.self.inside.leaders) c.free_each.new.owned)
       (sym c.free_each.ensures.states)
-      (owned-freed c.self.inside.states c.self.inside.claims c.self.inside.leaders c.self.inside.groups c.self.invariant.0 c.self.inside.owned c.free_each.new.owned
+      (numbered-freed ByGuest c.self.inside.states c.self.inside.claims c.self.inside.leaders c.self.inside.groups c.self.invariant.0 c.self.inside.owned c.free_each.new.owned
       c.self.invariant.2 c.from-at.result
       (leads-there c.self.inside.states c.self.inside.claims c.self.inside.leaders c.self.inside.groups c.self.invariant.0 c.args.self.now c.self.view_is
       c.args.leader c.from-at.result c.from-at.ensures c.requires.leads)
       (leads-own c.self.inside.states c.self.inside.claims c.self.inside.leaders c.self.inside.groups c.self.invariant.0 c.args.self.now c.self.view_is
       c.args.leader c.from-at.result c.from-at.ensures c.requires.leads)
-      c.of.result c.of.ensures c.disown.new.owned _ c.index-self-at-2.result refl
+      c.of.result c.of.ensures c.disown.new.masks _ c.index-self-at-2.result c.from-guest.ensures
       (subst (λ (n : ℕ).
-      AreWithout c.self.inside.owned (slice_index_or c.self.inside.claims c.from-at.result c.index-self-at-2.result).guest n c.disown.new.owned) (sym c.from-at.ensures) c.disown.ensures.bits)
+      AreWithout c.self.inside.owned c.from-guest.result n c.disown.new.masks) (sym c.from-at.ensures) c.disown.ensures.bits)
       c.free_each.ensures.size c.free_each.ensures.owned),
+  subst (λ (states : List TagState). AreNumbered ByQueue (slots_of states c.self.inside.claims c.self.inside.leaders) c.free_each.new.queued)
+      (sym c.free_each.ensures.states)
+      (numbered-freed ByQueue c.self.inside.states c.self.inside.claims c.self.inside.leaders c.self.inside.groups c.self.invariant.0 c.self.inside.queued c.free_each.new.queued
+      c.self.invariant.3 c.from-at.result
+      (leads-there c.self.inside.states c.self.inside.claims c.self.inside.leaders c.self.inside.groups c.self.invariant.0 c.args.self.now c.self.view_is
+      c.args.leader c.from-at.result c.from-at.ensures c.requires.leads)
+      (leads-own c.self.inside.states c.self.inside.claims c.self.inside.leaders c.self.inside.groups c.self.invariant.0 c.args.self.now c.self.view_is
+      c.args.leader c.from-at.result c.from-at.ensures c.requires.leads)
+      c.of.result c.of.ensures c.disown-2.new.masks _ c.index-self-at-2.result refl
+      (subst (λ (n : ℕ).
+      AreWithout c.self.inside.queued (slice_index_or c.self.inside.claims c.from-at.result c.index-self-at-2.result).queue n c.disown-2.new.masks) (sym c.from-at.ensures) c.disown-2.ensures.bits)
+      c.free_each.ensures.queues c.free_each.ensures.queued),
 )
 
 pub returns : goal.returns
@@ -110,6 +123,13 @@ bounds-self-inside-at-5 c =
 
 pub disown-requires : goal.disown-requires
 disown-requires c =
+    let below = leads-there c.self.inside.states c.self.inside.claims c.self.inside.leaders c.self.inside.groups c.self.invariant.0 c.args.self.now c.self.view_is
+    c.args.leader c.from-at.result c.from-at.ensures c.requires.leads in
+    let same = c.from-at.ensures in
+    omega (arith, below, same)
+
+pub disown-requires-2 : goal.disown-requires-2
+disown-requires-2 c =
     let below = leads-there c.self.inside.states c.self.inside.claims c.self.inside.leaders c.self.inside.groups c.self.invariant.0 c.args.self.now c.self.view_is
     c.args.leader c.from-at.result c.from-at.ensures c.requires.leads in
     let same = c.from-at.ensures in
