@@ -4,6 +4,7 @@ use Rattle.std.specs.Prelude.{◌↔◌, IsTrue}
 use Rattle.std.specs.Option.{option_map}
 use Rattle.std.proofs.lemmas.List.{length-map, map-set}
 use Rattle.std.proofs.lemmas.Option.{get_or_from_slice_get, slice_get-map}
+use Rattle.nv_core.proofs.Alike.{HasAlike, as-many, lane-alike}
 use Rattle.nv_core.proofs.Dues.{due-told, reap-due}
 use Rattle.nv_core.proofs.GroupWorlds.{looked-up}
 use Rattle.nv_core.proofs.KeptStates.{kept-of}
@@ -87,26 +88,9 @@ grounded-not (Some (Flying command share at)) e = record { command = command; sh
 grounded-not (Some (Ended command st share)) e = cc
 
 -- the lane of a world in the place of one of the side's
-pub record IsSeen (w : World) (lane : ℕ) (l : Lane) : Type 0 where
-  pub k : Lane
-  pub there : slice_get w.lanes lane ≡ Some k
-  pub same : unplaced_lane k ≡ unplaced_lane l
-
-pub seen : (side : Side) (memory : List ℕ) (w : World) → IsBeside side memory w → (lane : ℕ) (l : Lane) → slice_get side.lanes lane ≡ Some l → IsSeen w lane l
-seen side memory w on lane l found = by (slice_get w.lanes lane) refl
-  where
-    both : option_map unplaced_lane (slice_get w.lanes lane) ≡ Some (unplaced_lane l)
-    both =
-        sym (slice_get-map unplaced_lane w.lanes lane) ∙ ap (λ (ls : List Lane). slice_get ls lane) on.lanes ∙ slice_get-map unplaced_lane side.lanes lane
-        ∙ ap (option_map unplaced_lane) found
-
-    by : (o : Option Lane) → slice_get w.lanes lane ≡ o → IsSeen w lane l
-    by None at = let bad : None ≡ Some (unplaced_lane l) = sym (ap (option_map unplaced_lane) at) ∙ both in cc
-    by (Some k) at =
-        record { k = k; there = at; same = some-same (unplaced_lane k) (unplaced_lane l) (sym (ap (option_map unplaced_lane) at) ∙ both) }
-
-many-same : (side : Side) (memory : List ℕ) (w : World) → IsBeside side memory w → length w.lanes ≡ length side.lanes
-many-same side memory w on = sym (length-map w.lanes unplaced_lane) ∙ ap (λ (ls : List Lane). length ls) on.lanes ∙ length-map side.lanes unplaced_lane
+pub seen : (side : Side) (memory : List ℕ) (w : World) → IsBeside side memory w → (lane : ℕ) (l : Lane) → slice_get side.lanes lane ≡ Some l
+    → HasAlike w.lanes lane l
+seen side memory w on lane l found = lane-alike side.lanes w.lanes (sym on.lanes) lane l found
 
 -- ---- a Reap
 
@@ -123,7 +107,7 @@ module _ (geometry : Geometry) (side : Side) (memory : List ℕ) (w : World) (on
   s = state_in geometry theirs memory w exact
 
   of : IsOf geometry s
-  of = of-live geometry theirs memory w exact (subst (λ n. IsLaidOut (length memory) n geometry) (sym (many-same side memory w on)) laid) live
+  of = of-live geometry theirs memory w exact (subst (λ n. IsLaidOut (length memory) n geometry) (sym (as-many w.lanes side.lanes on.lanes)) laid) live
 
   -- what the event comes to in the world
   closes : (lane : ℕ) (r : Reply) (ls : List Lane) (new : Side)
@@ -144,27 +128,27 @@ module _ (geometry : Geometry) (side : Side) (memory : List ℕ) (w : World) (on
   beside-none lane past =
       closes lane reply.Ignored w.lanes side
       (quiet-in geometry theirs memory w exact (event.Reap lane) tt reply.Ignored theirs memory refl
-      (reap-no_lane geometry s s lane refl (let many = many-same side memory w on in omega (arith, many, past))))
+      (reap-no_lane geometry s s lane refl (let many = as-many w.lanes side.lanes on.lanes in omega (arith, many, past))))
       on.lanes refl refl
 
   -- it is not due where there is no such lane
   pub undue-none : (lane : ℕ) → length side.lanes ≤ lane → false ≡ due geometry (event.Reap lane) w
   undue-none lane past =
       sym (due-told geometry (event.Reap lane) s s reply.Ignored
-      (reap-no_lane geometry s s lane refl (let many = many-same side memory w on in omega (arith, many, past))))
+      (reap-no_lane geometry s s lane refl (let many = as-many w.lanes side.lanes on.lanes in omega (arith, many, past))))
       ∙ due-side geometry theirs memory w exact (event.Reap lane) tt
 
   module _ (lane i : ℕ) (l : Lane) (at : i ≡ lane) (below : i < length side.lanes) (has : l ≡ get_or side.lanes i l) (head addr : ℕ) (head_is : head ≡ l.head)
       (located : addr ≡ completion_slot geometry.mediator lane head) (completion : List ℕ) (read : completion ≡ bytes_from (byte_in memory) addr cqe_size)
       (p q : Bool) (iff : IsTrue p ↔ (phase_of completion ≡ 1)) (wants : q ≡ l.phase) where
-    view : IsSeen w lane l
+    view : HasAlike w.lanes lane l
     view = seen side memory w on lane l (looked-up side.lanes lane i l at below has)
 
     abbrev k : Lane
     k = view.k
 
     below_w : i < length w.lanes
-    below_w = (let many = many-same side memory w on in omega (arith, many, below))
+    below_w = (let many = as-many w.lanes side.lanes on.lanes in omega (arith, many, below))
 
     has_k : k ≡ get_or w.lanes i k
     has_k = sym (get_or_from_slice_get w.lanes i k k (ap (slice_get w.lanes) at ∙ view.there))

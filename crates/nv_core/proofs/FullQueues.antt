@@ -1,11 +1,11 @@
 -- Where a guest's completion queue has no room, no completion of a command of that queue is due.
-use Rattle.std.proofs.Common.{◌≡◌, ℕ, ◌+◌, ◌==◌, cond, Bool, true, false, List, length, [], slice_get, Option, Some, None, is_some, eqb-true, refl, sym, ap, ◌∙◌, arith}
+use Rattle.std.proofs.Common.{◌≡◌, ℕ, ◌+◌, ◌==◌, cond, Bool, true, false, List, length, [], slice_get, Option, Some, None, is_some, option_map, eqb-true, refl, sym, ap, ◌∙◌, arith}
 use Rattle.nv_core.proofs.Dues.{due-by}
 use Rattle.nv_core.proofs.GroupTags.{lane-where, numbers-from}
 use Rattle.nv_core.proofs.TagLists.{made-at}
 use Rattle.nv_core.specs.Front.{IsSideOf, Side}
-use Rattle.nv_core.specs.FullQueues.{IsFull, from_in, is_from, origin_by}
-use Rattle.nv_core.specs.Tags.{IsUsed, IsWhole, tag_made, tags_of}
+use Rattle.nv_core.specs.FullQueues.{AreWaiting, IsFull, from_in, is_from, origin_by, origin_in}
+use Rattle.nv_core.specs.Tags.{IsUsed, IsWhole, command_at, tag_made, tags_of}
 use Rattle.nv_core.specs.declared.full.Origin.{Origin}
 use Rattle.nv_core.specs.declared.progress.Progress.{Progress}
 use Rattle.nv_entry.specs.Status.{StatusField}
@@ -134,3 +134,22 @@ full-held geometry side memory w on lane other guest queue is l there tags are a
 -- nor is one of none
 pub none-held : (tags : List ℕ) (other : ℕ) (is : Bool) → tags ≡ [] → is_among tags other ≡ true → is ≡ false
 none-held tags other is none among = (let bad : false ≡ true = sym (ap (λ (xs : List ℕ). is_among xs other) none) ∙ among in cc)
+
+-- ---- all that wait with one
+
+-- a controller whose queue is full takes no completion
+pub none-posted : (guest queue : ℕ) (side : Side) → IsFull guest queue side → (c : Controller) → slice_get side.controllers guest ≡ Some c
+    → cond (is_enabled c) (is_some (post c queue 0 0 (deciding []))) true ≡ false
+none-posted guest queue side is c there =
+    ap (λ (x : Controller). cond (is_enabled x) (is_some (post x queue 0 0 (deciding []))) true) (some-same c is.controller (sym there ∙ is.there))
+    ∙ ap (λ (b : Bool). cond b (is_some (post is.controller queue 0 0 (deciding []))) true) is.enabled
+    ∙ ap (λ (p : Option Posted). is_some p) (is.full 0 (deciding []))
+
+pub all-waiting : (side : Side) (lane tag : ℕ) (here : Lane) → slice_get side.lanes lane ≡ Some here → (o : Origin)
+    → origin_in (slice_get here.tags tag) ≡ Some o → (tags : List ℕ) → tags ≡ from_in o.guest o.queue here → AreWaiting lane tag side tags
+all-waiting side lane tag here there o origin tags are = λ l command at used full.
+    let same : l ≡ here = some-same l here (sym at ∙ there) in
+    let from : o ≡ origin_by command =
+    some-same o (origin_by command)
+    (sym origin ∙ ap (λ (x : Lane). origin_in (slice_get x.tags tag)) (sym same) ∙ ap (λ (t : Option Command). option_map origin_by t) used) in
+    are ∙ ap (λ (x : Origin). from_in x.guest x.queue here) from ∙ ap (λ (x : Lane). from_in command.guest command.queue x) (sym same)

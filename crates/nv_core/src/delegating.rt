@@ -1,6 +1,6 @@
 //! The events of guests and of the mediator, by its front with the host's memory and the physical controller's doorbells.
 
-ghost use Rattle.std.specs.Prelude.{◌≡◌, ◌↔◌, ◌<◌, IfOk, IfSome, IsSome, IsTrue, None, OnErr, Some, length, slice_get};
+ghost use Rattle.std.specs.Prelude.{◌≡◌, ◌↔◌, ◌<◌, ◌≤◌, IfOk, IfSome, IsSome, IsTrue, None, OnErr, Some, length, slice_get};
 ghost use Rattle.nv_core.specs.Front.{HasTailMoved, rung_with, tails_of};
 ghost use Rattle.nv_core.specs.Held.{held_in};
 ghost use Rattle.nv_core.specs.Jobs.{holder_of, job_of};
@@ -212,7 +212,8 @@ impl Core {
 
     /// How many tags of a lane the commands of a guest have. There are none of a number from 16 on, which is no guest's, and none where there is no such lane.
     pub fn held_by(&self, lane: u8, guest: u8) -> u8
-        ensures { guest < most_guests → result ≡ held_in guest (slice_get (world_of self.now).lanes lane) }
+        ensures held { guest < most_guests → result ≡ held_in guest (slice_get (world_of self.now).lanes lane) }
+        ensures none { most_guests ≤ guest → result ≡ 0 }
     {
         if guest >= MOST_GUESTS {
             return 0;

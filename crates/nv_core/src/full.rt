@@ -3,7 +3,7 @@
 ghost use Rattle.std.specs.Prelude.{◌≡◌, ◌<◌, ◌==◌, ℕ, List, Some, false, is_some, slice_get, true};
 ghost use Rattle.std.specs.List.{list_any};
 ghost use Rattle.nv_core.specs.Front.{IsSideOf};
-ghost use Rattle.nv_core.specs.FullQueues.{IsFull, from_in, origin_by, origin_in};
+ghost use Rattle.nv_core.specs.FullQueues.{AreWaiting, IsFull, from_in, origin_by, origin_in};
 ghost use Rattle.nv_core.specs.Tags.{command_at};
 ghost use Rattle.nv_tags.specs.Numbers.{number_count};
 ghost use Rattle.nv_world_model.specs.Due.{due};
@@ -31,7 +31,8 @@ impl Front {
     /// no completion of theirs is due. None where it has room, and where the tag is free or there is none.
     #[inline(never)]
     pub fn held_with(&self, lane: u8, tag: u8) -> Group
-        ensures { (layout : Geometry) (other : ℕ) (memory : List ℕ) (w : World) → list_any (λ t. t == other) result ≡ true → IsSideOf self.now memory w →
+        ensures all { AreWaiting lane tag self.now result }
+        ensures rest { (layout : Geometry) (other : ℕ) (memory : List ℕ) (w : World) → list_any (λ t. t == other) result ≡ true → IsSideOf self.now memory w →
             due layout (Event.Post lane other) w ≡ false }
     {
         let number = usize::from(lane);
@@ -50,7 +51,8 @@ impl Front {
 
     // Whether a command of a queue of a guest may end, as far as its completion queue goes.
     fn may_post(&self, guest: u8, queue: u16) -> bool
-        ensures { result ≡ false → IsFull guest queue self.now }
+        ensures no { result ≡ false → IsFull guest queue self.now }
+        ensures yes { IsFull guest queue self.now → result ≡ false }
     {
         if guest >= MOST_GUESTS || queue > LAST_QUEUE {
             return true;

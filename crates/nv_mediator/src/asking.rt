@@ -117,7 +117,8 @@ impl Mediator {
     /// How many tags of a lane the commands of a guest have. There are none of a number from 16 on, which is no guest's, and none where there is no such lane.
     #[inline]
     pub fn held_by(&self, lane: u8, guest: u8) -> u8
-        ensures { guest < most_guests → result ≡ held_in guest (slice_get (world_of self.now.state).lanes lane) }
+        ensures held { guest < most_guests → result ≡ held_in guest (slice_get (world_of self.now.state).lanes lane) }
+        ensures none { most_guests ≤ guest → result ≡ 0 }
     {
         self.core.held_by(lane, guest)
     }

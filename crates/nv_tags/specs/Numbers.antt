@@ -1,12 +1,13 @@
 -- The numbers of a command by which its tags are found: its guest's, and that of the submission queue that it was taken from (profile).
 use Rattle.std.specs.Prelude.{ℕ, Bool, false, ◌==◌, ◌&&◌, Option, Some, None}
+use Rattle.nv_world_model.specs.SetUp.{most_guests}
 use Rattle.nv_world_model.specs.World.{Command}
 use Rattle.nv_tags.specs.Tags.{Free, Slot, Used}
 use Rattle.nv_tags.specs.declared.claim.Claim.{Claim}
 
--- how many numbers are kept: those from 0 to 15
+-- how many numbers are kept: those of all guests, and so those of all queues
 abbrev pub number_count : ℕ
-number_count = 16
+number_count = most_guests
 
 -- which number it is
 pub data Key : Type 0 where

@@ -6,9 +6,10 @@ ghost use Rattle.nv_tags.specs.Kept.{AreWith, AreWithout};
 ghost use Rattle.nv_tags.specs.Numbers.{number_count};
 
 use crate::group::without;
+use nv_model::limits::MOST_GUESTS;
 
-/// How many numbers have a mask: those from 0 to 15.
-pub(crate) const NUMBER_COUNT: usize = 16;
+/// How many numbers have a mask: those of all guests, and so those of all queues.
+pub(crate) const NUMBER_COUNT: usize = MOST_GUESTS as usize;
 
 /// The tags of a mask are of that number, too. For a number from 16 on nothing is kept.
 pub(crate) fn own(masks: &mut [u64; NUMBER_COUNT], number: u16, mask: u64)

@@ -1,6 +1,6 @@
 //! Jobs of commands that were taken, and whose commands tags have.
 
-ghost use Rattle.std.specs.Prelude.{◌≡◌, ◌<◌, IfOk, IsSome, OnErr, slice_get};
+ghost use Rattle.std.specs.Prelude.{◌≡◌, ◌<◌, ◌≤◌, IfOk, IsSome, OnErr, slice_get};
 ghost use Rattle.nv_core.specs.Held.{held_in};
 ghost use Rattle.nv_core.specs.Jobs.{holder_of, job_of};
 ghost use Rattle.nv_core.specs.State.{world_of};
@@ -36,7 +36,8 @@ impl World {
 
     /// How many tags of a lane the commands of a guest have. There are none of a number from 16 on, which is no guest's, and none where there is no such lane.
     pub fn held_by(&self, lane: u8, guest: u8) -> u8
-        ensures { guest < most_guests → result ≡ held_in guest (slice_get (world_of self.now.state).lanes lane) }
+        ensures held { guest < most_guests → result ≡ held_in guest (slice_get (world_of self.now.state).lanes lane) }
+        ensures none { most_guests ≤ guest → result ≡ 0 }
     {
         self.mediator.held_by(lane, guest)
     }
