@@ -110,6 +110,6 @@ pub record IsLane (size head posted : ℕ) (held : List (Option Held)) : Type 0 
 -- the parts of a device fit
 pub record IsWhole (mediator : ℕ) (disk : List (List ℕ)) (kept : List Bool) (lanes : List DeviceLane) : Type 0 where
   pub area : lane_start mediator (length lanes) ≤ 2 ^ 64
-  pub few : length lanes ≤ 8
+  pub few : length lanes ≤ lane_limit
   pub marked : length kept ≡ length disk
   pub held : All (AreHeld (length disk)) lanes

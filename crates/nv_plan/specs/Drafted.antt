@@ -11,7 +11,7 @@ use Rattle.nv_mem.specs.declared.piece.Piece.{Piece}
 use Rattle.nv_mem.specs.declared.piece.Piece.TheVariants as piece
 use Rattle.nv_model.specs.Dialogue.{Dialogue, End, and_then}
 use Rattle.nv_model.specs.Judge.{Go, Refuse, Verdict, has_buffer, judge, judge_ranges, judge_reading, range_count_of, ranges_in, read_source, work_of}
-use Rattle.nv_model.specs.Limits.{range_size}
+use Rattle.nv_model.specs.Limits.{part_size, range_size}
 use Rattle.nv_model.specs.Reading.{Reading, Spells}
 use Rattle.nv_model.specs.Transcript.{ReadDone, Settled, first_read, in_transcript}
 use Rattle.nv_model.specs.Want.{want_of}
@@ -149,7 +149,7 @@ pub record IsListed (given : Guest) (entry : List ℕ) (b : Buffered) (d : Dialo
 -- the source of a Dataset Management
 pub record IsSource (given : Guest) (entry : List ℕ) (source : Source) : Type 0 where
   pub known : IsKnown given entry opcode.DatasetManagement (need_of entry opcode.DatasetManagement)
-  pub short : total_len (left_of source) ≤ 4096
+  pub short : total_len (left_of source) ≤ part_size
   pub runs : All IsRunPiece (left_of source)
   pub many : length source.bytes.items + total_len (left_of source) ≡ range_size * range_count_of entry
 

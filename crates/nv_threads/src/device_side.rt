@@ -1,6 +1,7 @@
 //! The worker that is the physical controller on a lane.
 
 ghost use Rattle.std.specs.Prelude.{◌<◌};
+ghost use Rattle.nv_world_model.specs.Area.{tag_count};
 
 use crate::bits::{bit, next_behind};
 use crate::concern::Concern;
@@ -58,7 +59,7 @@ pub(crate) struct LaneDevice {
     // of commands that were there before the worker came, no unit below this one is left
     pub(crate) earlier: u64,
     share: Share,
-    ghost in_range: { slot < 64 },
+    ghost in_range: { slot < tag_count },
 }
 
 impl LaneDevice {
@@ -117,7 +118,7 @@ impl LaneDevice {
 
     // The next event of a slot's command, where one is due.
     fn due(&self, world: &World, slot: u8) -> Option<Event>
-        requires { slot < 64 }
+        requires { slot < tag_count }
     {
         let next = Event::DevMove(self.lane, slot, self.units[usize::from(slot)]);
         if world.due(&next) {

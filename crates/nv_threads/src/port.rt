@@ -1,6 +1,7 @@
 //! What a guest acts by.
 
 ghost use Rattle.std.specs.Prelude.{◌≡◌, ◌≢◌, ◌<◌, IfOk, [], ◌∷◌, ◌++◌, OnErr};
+ghost use Rattle.nv_world_model.specs.SetUp.{most_guests};
 
 use crate::locked::Errand;
 use crate::shared::Shared;
@@ -22,18 +23,19 @@ pub struct Port {
 impl Model for Port {
     ghost use Rattle.std.specs.Prelude.{◌<◌};
     ghost use Rattle.nv_threads.specs.Told.{Told};
+    ghost use Rattle.nv_world_model.specs.SetUp.{most_guests};
 
     ghost Value = { Told };
 
     ghost view = { λ p. record { guest = p.guest; calls = p.calls.items } };
 
-    ghost invariant = { λ p. p.guest < 16 };
+    ghost invariant = { λ p. p.guest < most_guests };
 }
 
 impl Port {
     /// The port of the guest of that number, which is below 16. Its list is empty.
     pub fn new(alloc: Global, guest: u8) -> Self
-        requires { guest < 16 }
+        requires { guest < most_guests }
         ensures { result ≡ record { guest = guest; calls = [] } }
     {
         Port {
@@ -79,7 +81,7 @@ impl Port {
     /// The guest's number, below 16.
     pub fn guest(&self) -> u8
         ensures value { result ≡ self.now.guest }
-        ensures below { result < 16 }
+        ensures below { result < most_guests }
     {
         self.guest
     }
