@@ -3,9 +3,8 @@
 
 A small host, without a drive, gets commands of each kind from a guest: entries, lists of both formats, ranges, and sources that are copied. valgrind's lackey
 notes each load while the library takes them, reads their lists and hands them to the drive. What the guest's bytes are loaded for, and how often, is
-printed, of a guest with one extent and of one with two; status 1 where a byte is loaded twice. One exception is known: where a guest has several extents,
-nvmed_work looks at an entry to see how many tags it wants, and then takes it by another look, of which alone the copy is kept. Loads of one call of the C
-library's memcpy count once: it may load a byte at the end of a copy twice, and the copy gets it from one of these. It needs clang or cc, and valgrind."""
+printed, of a guest with one extent and of one with two; status 1 where a byte is loaded twice. Loads of one call of the C library's memcpy count once: it
+may load a byte at the end of a copy twice, and the copy gets it from one of these. It needs clang or cc, and valgrind."""
 import collections
 import os
 import re
@@ -137,9 +136,8 @@ def main():
             print(f"a guest with {extents} extent{'s' * (extents - 1)}:")
             for name, start, end in KINDS:
                 here = [count for byte, count in counts.items() if start <= byte < end]
-                most = extents if name == "entries" else 1
                 print(f"  {name}: {len(here)} bytes, loaded {min(here)} to {max(here)} times" if here else f"  {name}: none")
-                wrong += not here or max(here) > most
+                wrong += not here or max(here) > 1
     sys.exit(1 if wrong else 0)
 
 
