@@ -3,6 +3,7 @@ pub mod OnceWordsLemmas
 pub mod OnceDigitsLemmas
 pub mod OnceNumberLemmas
 pub mod OnceVocabularyLemmas
+pub mod OnceFoldLemmas
 pub mod OnceScriptLemmas
 pub mod OnceRangeLemmas
 pub mod OnceExamples

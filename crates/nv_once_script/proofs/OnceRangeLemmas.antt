@@ -14,11 +14,12 @@ use Rattle.nv_once_script.specs.declared.once.sizes.Sizes.{Sizes}
 use Rattle.nv_once_script.specs.declared.once.vocabulary.Keyword.{Keyword}
 use Rattle.nv_once_script.specs.declared.once.vocabulary.Keyword.TheVariants.{Memory, Blocks, Store, Fill, Paint, Cmd, Dump, Block}
 use Rattle.nv_once_script.specs.OnceFault.{◌>>=◌}
+use Rattle.nv_once_script.specs.OnceFold.{after_lines, after_words, on_line, script_by}
 use Rattle.nv_once_script.specs.OnceLine.{LineValue, if_there, is_there, line_of}
 use Rattle.nv_once_script.specs.OnceLine as value
 use Rattle.nv_once_script.specs.OnceNumber.{bytes_of, entry_of, number_of, number_up_to}
-use Rattle.nv_once_script.specs.OnceScript.{IsInRange, Progress, ScriptValue, after_body, after_keyword, after_line, after_lines, both, finished, first_time}
-use Rattle.nv_once_script.specs.OnceScript.{nothing, on_line, script_of, script_value, sizes_in}
+use Rattle.nv_once_script.specs.OnceScript.{IsInRange, Progress, ScriptValue, after_body, after_keyword, after_line, both, counted_keyword, finished}
+use Rattle.nv_once_script.specs.OnceScript.{first_time, nothing, script_of, script_value, sizes_in}
 use Rattle.nv_once_script.specs.OnceSizes.{block_count, is_block_count, is_memory_size, memory_size}
 use Rattle.nv_once_script.specs.OnceVocabulary.{arguments_of, count_check, keyword_of}
 use Rattle.nv_once_script.specs.OnceWords.{lines_of, words_of}
@@ -178,24 +179,29 @@ after_keyword-kept p q Memory (word ∷ []) kept h = after_memory-kept p q word 
 after_keyword-kept p q Blocks (word ∷ []) kept h = after_blocks-kept p q word kept h
 after_keyword-kept p q k words kept h = after_body-kept p q k words kept h
 
-after_line-kept : (p q : Progress) (words : List (List ℕ)) → IsKept p → after_line p words ≡ Ok q → IsKept q
-unfolding after_line
-after_line-kept p q [] kept h = let same : p ≡ q = cc in subst IsKept same kept
-after_line-kept p q (first ∷ words) kept h =
+counted_keyword-kept : (p q : Progress) (k : Keyword) (words : List (List ℕ)) → IsKept p → counted_keyword p k words ≡ Ok q
+    → IsKept q
+counted_keyword-kept p q k words kept h =
+    let u = steps (count_check (length words) (arguments_of k)) _ q h in
+    after_keyword-kept p q k words kept u.2
+
+after_line-kept : (n : ℕ) (p q : Progress) (words : List (List ℕ)) → IsKept p → after_line n p words ≡ Ok q → IsKept q
+unfolding after_words
+after_line-kept n p q [] kept h = let same : p ≡ q = cc in subst IsKept same kept
+after_line-kept n p q (first ∷ words) kept h =
     let k = steps (ok_or (keyword_of first) UnknownWord) _ q h in
-    let u = steps (count_check (length words) (arguments_of k.0)) _ q k.2 in
-    after_keyword-kept p q k.0 words kept u.2
+    counted_keyword-kept p q k.0 words kept k.2
 
 on_line-right : {A : Type 0} (n : ℕ) (r : Result A FaultKind) (x : A) → on_line n r ≡ Ok x → r ≡ Ok x
 on_line-right n (Ok y) x h = cc
 on_line-right n (Err kind) x h = cc
 
-after_lines-kept : (n : ℕ) (p q : Progress) (lines : List (List ℕ)) → IsKept p → after_lines n p lines ≡ Ok q → IsKept q
+after_lines-kept : (n : ℕ) (p q : Progress) (lines : List (List ℕ)) → IsKept p → after_lines after_line n p lines ≡ Ok q → IsKept q
 unfolding after_lines
 after_lines-kept n p q [] kept h = let same : p ≡ q = cc in subst IsKept same kept
 after_lines-kept n p q (line ∷ lines) kept h =
-    let a = steps (on_line n (after_line p (words_of line))) _ q h in
-    after_lines-kept (n + 1) a.0 q lines (after_line-kept p a.0 (words_of line) kept (on_line-right n (after_line p (words_of line)) a.0 a.1)) a.2
+    let a = steps (on_line n (after_line n p (words_of line))) _ q h in
+    after_lines-kept (n + 1) a.0 q lines (after_line-kept n p a.0 (words_of line) kept (on_line-right n (after_line n p (words_of line)) a.0 a.1)) a.2
 
 -- ---- the whole script
 
@@ -220,9 +226,9 @@ finished-in_range n p script kept h =
 
 -- a text that is a script is one in range
 pub script_of-in_range : (text : List ℕ) (script : ScriptValue) → script_of text ≡ Ok script → IsInRange script
-unfolding script_of
+unfolding script_of script_by
 script_of-in_range text script h =
-    let a = steps (after_lines 1 nothing (lines_of text)) _ script h in
+    let a = steps (after_lines after_line 1 nothing (lines_of text)) _ script h in
     let start : IsKept nothing = record { memory = tt; blocks = tt; lines = refl } in
     finished-in_range (length (lines_of text)) a.0 script (after_lines-kept 1 nothing a.0 (lines_of text) start a.1) a.2
 

@@ -1,27 +1,23 @@
--- Lines one after another
+-- What lines add
 use Rattle.std.proofs.Common.{◌≡◌, ℕ, zero, suc, ◌+◌, ◌<◌, ◌≤◌, true, false, ltb, List, [], ◌∷◌, ◌++◌}
-use Rattle.std.proofs.Common.{length, drop, Option, Some, None, Result, Ok, Err, refl, sym, ap, ◌∙◌, arith, inl, inr, ◌⊎◌}
+use Rattle.std.proofs.Common.{length, drop, Option, Some, None, Result, Ok, Err, refl, sym, ap, ◌∙◌, arith}
 use Rattle.std.specs.Option.{is_some, ok_or}
-use Rattle.std.specs.Prelude.{map, MatchResult}
+use Rattle.std.specs.Prelude.{map}
 use Rattle.std.proofs.lemmas.Bool.Decides.{nat_tests}
 use Rattle.std.proofs.lemmas.List.{map-append}
 use Rattle.nv_once_script.specs.declared.once.fault.FaultKind.{FaultKind}
-use Rattle.nv_once_script.specs.declared.once.fault.FaultKind.TheVariants.{OutOfPlace, UnknownWord, MissingWord, TooManyWords}
+use Rattle.nv_once_script.specs.declared.once.fault.FaultKind.TheVariants.{OutOfPlace, MissingWord, TooManyWords}
 use Rattle.nv_once_script.specs.declared.once.vocabulary.Keyword.{Keyword}
 use Rattle.nv_once_script.specs.declared.once.vocabulary.Keyword.TheVariants.{Memory, Blocks, Store, Fill, Paint, Cmd, Dump, Block, Foreign}
-use Rattle.nv_once_script.specs.OnceVocabulary.{arguments_of, count_check, keyword_of}
+use Rattle.nv_once_script.specs.OnceVocabulary.{arguments_of, count_check}
 use Rattle.nv_once_script.specs.OnceSizes.{block_count, memory_size}
 use Rattle.nv_once_script.specs.declared.once.fault.LineFault.{LineFault}
 use Rattle.nv_once_script.specs.declared.once.fault.LineFault.TheVariants.{Faulty, NoMemory}
 use Rattle.nv_once_script.specs.declared.once.line.Line.{Line}
 use Rattle.nv_once_script.specs.declared.once.sizes.Sizes.{Sizes}
-use Rattle.nv_once_script.specs.declared.once.fault.ScriptFault.{ScriptFault}
-use Rattle.nv_once_script.specs.declared.once.fault.ScriptFault.TheVariants as fault
-use Rattle.nv_once_script.specs.declared.once.script.Script.{Script}
-use Rattle.nv_once_script.specs.OnceFault.{◌>>=◌, Refuses, fault_on}
-use Rattle.nv_once_script.specs.OnceWords.{lines_of, words_of}
+use Rattle.nv_once_script.specs.OnceFault.{◌>>=◌, Refuses}
 use Rattle.nv_once_script.specs.OnceLine.{LineValue, line_of, value_of}
-use Rattle.nv_once_script.specs.OnceScript.{Progress, sizes_in, first_time, after_body, after_keyword, after_line, after_lines, finished, nothing, script_of, script_value}
+use Rattle.nv_once_script.specs.OnceScript.{Progress, sizes_in, first_time, after_body, after_keyword, counted_keyword}
 
 -- ---- counts
 
@@ -137,29 +133,15 @@ after_keyword-body p (Foreign n) words m b = refl
 
 -- ---- a line
 
-pub after_line-none : (p : Progress) (words : List (List ℕ)) → words ≡ [] → after_line p words ≡ Ok p
-unfolding after_line
-after_line-none p words e = rw e refl
+-- words that are too few or too many
+pub counted_keyword-wrong : (p : Progress) (k : Keyword) (words : List (List ℕ)) (kind : FaultKind)
+    → count_check (length words) (arguments_of k) ≡ Err kind → counted_keyword p k words ≡ Err kind
+counted_keyword-wrong p k words kind wrong = rw wrong refl
 
-pub after_line-unknown : (p : Progress) (words : List (List ℕ)) (first : List ℕ) (rest : List (List ℕ)) (kind : FaultKind)
-    → words ≡ first ∷ rest
-    → ok_or (keyword_of first) UnknownWord ≡ Err kind → after_line p words ≡ Err kind
-unfolding after_line
-after_line-unknown p words first rest kind e unknown = rw (e, unknown) refl
-
-pub after_line-miscounted : (p : Progress) (words : List (List ℕ)) (first : List ℕ) (rest : List (List ℕ)) (k : Keyword) (kind : FaultKind)
-    → words ≡ first ∷ rest
-    → ok_or (keyword_of first) UnknownWord ≡ Ok k → count_check (length rest) (arguments_of k) ≡ Err kind
-    → after_line p words ≡ Err kind
-unfolding after_line
-after_line-miscounted p words first rest k kind e known wrong = rw (e, known, wrong) refl
-
-pub after_line-known : (p : Progress) (words : List (List ℕ)) (first : List ℕ) (rest : List (List ℕ)) (k : Keyword) (u : Unit {0})
-    → words ≡ first ∷ rest
-    → ok_or (keyword_of first) UnknownWord ≡ Ok k → count_check (length rest) (arguments_of k) ≡ Ok u
-    → after_line p words ≡ after_keyword p k rest
-unfolding after_line
-after_line-known p words first rest k u e known right = rw (e, known, right) refl
+-- and as many as are wanted
+pub counted_keyword-right : (p : Progress) (k : Keyword) (words : List (List ℕ)) (u : Unit {0})
+    → count_check (length words) (arguments_of k) ≡ Ok u → counted_keyword p k words ≡ after_keyword p k words
+counted_keyword-right p k words u right = rw right refl
 
 -- ---- refusals
 
@@ -193,51 +175,3 @@ body-read p k words sizes old new line m b set made before after =
     sym (ap (map value_of) after ∙ map-append value_of old (line ∷ []) ∙ ap (λ (xs : List LineValue). xs ++ value_of line ∷ []) (sym before)) in
     after_keyword-body p k words m b
     ∙ rw (set, made) (ap (λ (xs : List LineValue). Ok (record p { lines = xs })) pushed)
-
--- ---- a script
-
--- a line that is read
-pub after_lines-read : (n : ℕ) (p next : Progress) (line : List ℕ) (rest : List (List ℕ))
-    → after_line p (words_of line) ≡ Ok next → after_lines n p (line ∷ rest) ≡ after_lines (n + 1) next rest
-unfolding after_lines
-after_lines-read n p next line rest read = rw read refl
-
--- a line that is faulty
-after_lines-faulty : (n : ℕ) (p : Progress) (line : List ℕ) (rest : List (List ℕ)) (kind : FaultKind)
-    → after_line p (words_of line) ≡ Err kind → after_lines n p (line ∷ rest) ≡ Err (fault.Line n kind)
-unfolding after_lines
-after_lines-faulty n p line rest kind faulty = rw faulty refl
-
--- behind the last line
-after_lines-end : (n : ℕ) (p : Progress) → after_lines n p [] ≡ Ok p
-unfolding after_lines
-after_lines-end n p = refl
-
--- the fault of a script is that of its first faulty line
-pub script_of-refused : (n : ℕ) (p : Progress) (text line : List ℕ) (rest : List (List ℕ)) (refusal : LineFault)
-    → after_lines n p (line ∷ rest) ≡ after_lines 1 nothing (lines_of text)
-    → Refuses (after_line p (words_of line)) refusal
-    → (fault_on n refusal ≡ fault.NoMemory) ⊎ (script_of text ≡ Err (fault_on n refusal))
-unfolding script_of
-script_of-refused n p text line rest (Faulty kind) kept refused =
-    let first = sym kept ∙ after_lines-faulty n p line rest kind refused in
-    inr (rw first refl)
-script_of-refused n p text line rest NoMemory kept refused = inl refl
-
--- a script whose lines were all read
-script_of-read : (n : ℕ) (p : Progress) (text : List ℕ) → n ≡ length (lines_of text)
-    → after_lines (n + 1) p [] ≡ after_lines 1 nothing (lines_of text)
-    → script_of text ≡ finished n p
-unfolding script_of
-script_of-read n p text whole kept =
-    let read = sym kept ∙ after_lines-end (n + 1) p in
-    rw (read, ← whole) refl
-
--- and what comes of it
-pub script_of-finished : (n : ℕ) (p : Progress) (text : List ℕ) (r : Result Script ScriptFault)
-    → n ≡ length (lines_of text)
-    → after_lines (n + 1) p [] ≡ after_lines 1 nothing (lines_of text)
-    → MatchResult r (λ script. finished n p ≡ Ok (script_value script)) (λ e. finished n p ≡ Err e)
-    → MatchResult r (λ script. script_of text ≡ Ok (script_value script)) (λ e. (e ≡ fault.NoMemory) ⊎ (script_of text ≡ Err e))
-script_of-finished n p text (Ok script) whole kept made = script_of-read n p text whole kept ∙ made
-script_of-finished n p text (Err e) whole kept made = inr (script_of-read n p text whole kept ∙ made)

@@ -5,5 +5,6 @@ pub mod OnceLimits
 pub mod OnceVocabulary
 pub mod OnceSizes
 pub mod OnceLine
+pub mod OnceFold
 pub mod OnceScript
 pub mod OnceHexadecimal

@@ -1,21 +1,20 @@
 -- A whole script: the set-up first, then its lines; the first faulty line decides
-use Rattle.std.specs.Prelude.{◌≡◌, ℕ, ◌+◌, true, List, [], ◌∷◌, ◌++◌, map, length, Option, Some, None, Result, Ok, Err}
+use Rattle.std.specs.Prelude.{◌≡◌, ℕ, true, List, [], ◌∷◌, ◌++◌, map, length, Option, Some, None, Result, Ok, Err}
 use Rattle.std.specs.List.{AllPass}
 use Rattle.std.specs.Option.{ok_or}
 use Rattle.nv_once_script.specs.declared.once.fault.FaultKind.{FaultKind}
-use Rattle.nv_once_script.specs.declared.once.fault.FaultKind.TheVariants.{OutOfPlace, UnknownWord}
+use Rattle.nv_once_script.specs.declared.once.fault.FaultKind.TheVariants.{OutOfPlace}
 use Rattle.nv_once_script.specs.declared.once.fault.ScriptFault.{ScriptFault}
-use Rattle.nv_once_script.specs.declared.once.fault.ScriptFault.TheVariants as fault
 use Rattle.nv_once_script.specs.declared.once.sizes.Sizes.{Sizes}
 use Rattle.nv_once_script.specs.declared.once.script.Script.{Script}
 use Rattle.nv_once_script.specs.declared.once.reading.Reading.{Reading}
 use Rattle.nv_once_script.specs.declared.once.vocabulary.Keyword.{Keyword}
 use Rattle.nv_once_script.specs.declared.once.vocabulary.Keyword.TheVariants as keyword
 use Rattle.nv_once_script.specs.OnceFault.{◌>>=◌}
+use Rattle.nv_once_script.specs.OnceFold.{after_words, on_line, script_by}
 use Rattle.nv_once_script.specs.OnceLine.{LineValue, is_there, line_of, value_of}
 use Rattle.nv_once_script.specs.OnceSizes.{block_count, is_block_count, is_memory_size, memory_size}
 use Rattle.nv_once_script.specs.OnceVocabulary.{arguments_of, count_check, keyword_of}
-use Rattle.nv_once_script.specs.OnceWords.{lines_of, words_of}
 
 -- a script: the sizes of its set-up, and its lines after it
 pub record ScriptValue : Type 0 where
@@ -69,25 +68,15 @@ after_keyword so_far keyword.Blocks (word ∷ []) = do
   Ok (record so_far { blocks = Some count })
 after_keyword so_far keyword words = after_body so_far keyword words
 
--- what a line of these words adds: a line with no words adds nothing
-unfoldable pub after_line : Progress → List (List ℕ) → Result Progress FaultKind
-after_line so_far [] = Ok so_far
-after_line so_far (first ∷ words) = do
-  keyword ← ok_or (keyword_of first) UnknownWord
+-- the same, of words that are as many as that keyword wants
+abbrev pub counted_keyword : Progress → Keyword → List (List ℕ) → Result Progress FaultKind
+counted_keyword so_far keyword words = do
   counted ← count_check (length words) (arguments_of keyword)
   after_keyword so_far keyword words
 
--- a fault of line n
-abbrev pub on_line : {A : Type 0} → ℕ → Result A FaultKind → Result A ScriptFault
-on_line n (Ok x) = Ok x
-on_line n (Err kind) = Err (fault.Line n kind)
-
--- what lines from line n on add
-unfoldable pub after_lines : ℕ → Progress → List (List ℕ) → Result Progress ScriptFault
-after_lines n so_far [] = Ok so_far
-after_lines n so_far (line ∷ lines) = do
-  next ← on_line n (after_line so_far (words_of line))
-  after_lines (n + 1) next lines
+-- what a line of these words adds, whichever its number
+abbrev pub after_line : (n : ℕ) → Progress → List (List ℕ) → Result Progress FaultKind
+after_line n so_far words = after_words keyword_of (counted_keyword so_far) so_far words
 
 -- the script whose last line is line n: its set-up is whole
 abbrev pub finished : ℕ → Progress → Result ScriptValue ScriptFault
@@ -97,9 +86,7 @@ finished n so_far = do
 
 -- the script that a text is, or its first fault
 unfoldable pub script_of : List ℕ → Result ScriptValue ScriptFault
-script_of text = do
-  so_far ← after_lines 1 nothing (lines_of text)
-  finished (length (lines_of text)) so_far
+script_of text = script_by after_line finished nothing text
 
 -- the sizes of a script are such as a set-up may name, and the bytes and blocks that its lines name are there
 pub record IsInRange (script : ScriptValue) : Type 0 where

@@ -1,4 +1,3 @@
-pub mod LineLemmas
 pub mod ReplayScriptLemmas
 pub mod SetUpLemmas
 pub mod LeadingLemmas

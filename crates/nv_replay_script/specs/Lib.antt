@@ -1,6 +1,5 @@
 pub mod ReplayVocabulary
 pub mod ReplaySetUp
 pub mod ReplayEvents
-pub mod ReplayLines
 pub mod ReplayScript
 pub mod ReplayRows

@@ -6,7 +6,7 @@ use Rattle.nv_once_script.specs.declared.once.fault.FaultKind.{FaultKind}
 use Rattle.nv_once_script.specs.declared.once.fault.FaultKind.TheVariants.{OutOfPlace}
 use Rattle.nv_once_script.specs.declared.once.fault.ScriptFault.{ScriptFault}
 use Rattle.nv_once_script.specs.OnceFault.{◌>>=◌}
-use Rattle.nv_once_script.specs.OnceScript.{on_line}
+use Rattle.nv_once_script.specs.OnceFold.{after_words, on_line, script_by}
 use Rattle.nv_once_script.specs.OnceVocabulary.{count_check}
 use Rattle.nv_replay_script.specs.declared.reading.Reading.{Reading}
 use Rattle.nv_replay_script.specs.declared.script.Script.{Script}
@@ -15,9 +15,8 @@ use Rattle.nv_replay_script.specs.declared.vocabulary.EventKind.{EventKind}
 use Rattle.nv_replay_script.specs.declared.vocabulary.Keyword.{Keyword}
 use Rattle.nv_replay_script.specs.declared.vocabulary.Keyword.TheVariants as keyword
 use Rattle.nv_replay_script.specs.ReplayEvents.{event_of}
-use Rattle.nv_replay_script.specs.ReplayLines.{after_words, foreign, script_by}
 use Rattle.nv_replay_script.specs.ReplaySetUp.{GuestValue, SetUpSoFar, counted_set_up, guest_value, no_set_up, set_up_so_far, sizes_in}
-use Rattle.nv_replay_script.specs.ReplayVocabulary.{await_arguments, event_arguments}
+use Rattle.nv_replay_script.specs.ReplayVocabulary.{await_arguments, event_arguments, foreign, keyword_of}
 
 -- a script: the sizes and guests of its set-up, and its events in the order written
 pub record ScriptValue : Type 0 where
@@ -67,7 +66,7 @@ after_keyword so_far (keyword.Foreign arguments) words = foreign arguments words
 
 -- what a line of these words adds, whichever its number
 abbrev pub after_line : (n : ℕ) → Progress → List (List ℕ) → Result Progress FaultKind
-after_line n so_far words = after_words (after_keyword so_far) so_far words
+after_line n so_far words = after_words keyword_of (after_keyword so_far) so_far words
 
 -- the script whose last line is line n: its set-up is whole
 abbrev pub finished : ℕ → Progress → Result ScriptValue ScriptFault

@@ -1,7 +1,11 @@
 -- The first words of lines, under `replay` and `run` (profile)
-use Rattle.std.specs.Prelude.{ℕ, ◌+◌, List, [], ◌∷◌, codes, Option}
+use Rattle.std.specs.Prelude.{ℕ, ◌+◌, List, [], ◌∷◌, codes, length, Option, Result, Err}
 use Rattle.std.specs.Map.{lookup}
 use Rattle.std.specs.Str.{bytes_eq}
+use Rattle.nv_once_script.specs.declared.once.fault.FaultKind.{FaultKind}
+use Rattle.nv_once_script.specs.declared.once.fault.FaultKind.TheVariants.{OutOfPlace}
+use Rattle.nv_once_script.specs.OnceFault.{◌>>=◌}
+use Rattle.nv_once_script.specs.OnceVocabulary.{count_check}
 use Rattle.nv_replay_script.specs.declared.vocabulary.ActKind.{ActKind}
 use Rattle.nv_replay_script.specs.declared.vocabulary.ActKind.TheVariants as act
 use Rattle.nv_replay_script.specs.declared.vocabulary.EventKind.{EventKind}
@@ -71,3 +75,9 @@ set_up_arguments Descriptors = 2
 -- and how many follow the first of a line of `run` alone
 abbrev pub await_arguments : ℕ
 await_arguments = 3
+
+-- a line of another subcommand, which wants so many words: its count is checked first
+abbrev pub foreign : {P : Type 0} → (arguments : ℕ) → List (List ℕ) → Result P FaultKind
+foreign arguments words = do
+  counted ← count_check (length words) arguments
+  Err OutOfPlace

@@ -2,7 +2,7 @@
 //! of a world.
 //!
 //! A text is read whole, before anything of it runs. What it says is `specs/ReplayScript`, by `specs/ReplayVocabulary`,
-//! `specs/ReplaySetUp`, `specs/ReplayEvents` and `specs/ReplayLines`, over the words, numbers and faults of `nv_once_script`; [`parse`] gives
+//! `specs/ReplaySetUp` and `specs/ReplayEvents`, over the lines, words, numbers and faults of `nv_once_script`; [`parse`] gives
 //! exactly that, or that memory was refused. Neither the sizes nor the extents and maps are judged here, and an event may name a guest that there
 //! is not.
 //!

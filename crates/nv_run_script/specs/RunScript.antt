@@ -5,7 +5,7 @@ use Rattle.nv_once_script.specs.declared.once.fault.FaultKind.{FaultKind}
 use Rattle.nv_once_script.specs.declared.once.fault.FaultKind.TheVariants.{OutOfPlace}
 use Rattle.nv_once_script.specs.declared.once.fault.ScriptFault.{ScriptFault}
 use Rattle.nv_once_script.specs.OnceFault.{◌>>=◌}
-use Rattle.nv_once_script.specs.OnceScript.{on_line}
+use Rattle.nv_once_script.specs.OnceFold.{after_words, on_line, script_by}
 use Rattle.nv_once_script.specs.OnceVocabulary.{count_check}
 use Rattle.nv_replay_script.specs.declared.sizes.OpenSizes.{OpenSizes}
 use Rattle.nv_replay_script.specs.declared.sizes.Sizes.{Sizes}
@@ -13,9 +13,8 @@ use Rattle.nv_replay_script.specs.declared.vocabulary.ActKind.{ActKind}
 use Rattle.nv_replay_script.specs.declared.vocabulary.EventKind.TheVariants as event
 use Rattle.nv_replay_script.specs.declared.vocabulary.Keyword.{Keyword}
 use Rattle.nv_replay_script.specs.declared.vocabulary.Keyword.TheVariants as keyword
-use Rattle.nv_replay_script.specs.ReplayLines.{after_words, foreign, script_by}
 use Rattle.nv_replay_script.specs.ReplaySetUp.{GuestValue, SetUpSoFar, counted_set_up, guest_value, no_set_up, set_up_so_far, sizes_in}
-use Rattle.nv_replay_script.specs.ReplayVocabulary.{act_arguments, await_arguments, event_arguments}
+use Rattle.nv_replay_script.specs.ReplayVocabulary.{act_arguments, await_arguments, event_arguments, foreign, keyword_of}
 use Rattle.nv_run_script.specs.declared.line.Line.{Line}
 use Rattle.nv_run_script.specs.declared.reading.Reading.{Reading}
 use Rattle.nv_run_script.specs.declared.script.Script.{Script}
@@ -106,7 +105,7 @@ after_keyword n so_far (keyword.Foreign arguments) words = foreign arguments wor
 
 -- what line n of these words adds
 abbrev pub after_line : (n : ℕ) → Progress → List (List ℕ) → Result Progress FaultKind
-after_line n so_far words = after_words (after_keyword n so_far) so_far words
+after_line n so_far words = after_words keyword_of (after_keyword n so_far) so_far words
 
 -- the script whose last line is line n: its set-up is whole
 abbrev pub finished : ℕ → Progress → Result ScriptValue ScriptFault

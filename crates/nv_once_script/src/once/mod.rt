@@ -1,7 +1,7 @@
 //! The script of `nvmed once`: a text is read whole, before anything of it runs.
 //!
-//! What a text says is `specs/OnceScript`, by `specs/OnceWords`, `specs/OnceVocabulary`, `specs/OnceSizes`, `specs/OnceLine` and
-//! `specs/OnceNumber`; [`parse`] gives exactly that, or that memory was refused. Only the space separates words, `#` begins a comment wherever it
+//! What a text says is `specs/OnceScript`, by `specs/OnceFold`, `specs/OnceWords`, `specs/OnceVocabulary`, `specs/OnceSizes`, `specs/OnceLine`
+//! and `specs/OnceNumber`; [`parse`] gives exactly that, or that memory was refused. Only the space separates words, `#` begins a comment wherever it
 //! is, and every other byte is part of its word.
 
 pub mod fault;

@@ -42,7 +42,7 @@ impl Reading {
     /// line before both; `BadNumber` for a size; or as [`make_line`] returns it. [`LineFault::NoMemory`] where memory is refused. The
     /// contract does not say what the reading is then.
     pub fn read(&mut self, alloc: Global, line: &[u8]) -> Result<(), LineFault>
-        ensures { let after = after_line (progress self.old) (words_of line.now)
+        ensures { let after = after_line 1 (progress self.old) (words_of line.now)
             in MatchResult result (λ _. after ≡ Ok (progress self.new)) (Refuses after) }
     {
         let mut words = Words::of(line);

@@ -1,7 +1,7 @@
 use Rattle.std.proofs.Common.{◌+◌, ap, length, ◌∙◌, sym, arith}
-use Rattle.nv_replay_script.specs.ReplayLines.{after_lines}
+use Rattle.nv_once_script.specs.OnceFold.{after_lines}
 use Rattle.nv_replay_script.specs.ReplayScript.{after_line, finished, nothing, progress, script_of, script_value}
-use Rattle.nv_replay_script.proofs.LineLemmas.{after_lines-read, script_by-refused, script_by-finished}
+use Rattle.nv_once_script.proofs.OnceFoldLemmas.{after_lines-read, script_by-refused, script_by-finished}
 use Rattle.nv_replay_script.proofs.script.parse.Goals as goal
 
 pub overflow_add-number : goal.overflow_add-number

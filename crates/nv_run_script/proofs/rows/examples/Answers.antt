@@ -2,7 +2,7 @@ use Rattle.std.proofs.Common.{refl}
 use Rattle.hex.specs.Hex.{decode_pairs}
 use Rattle.nv_once_script.specs.OnceNumber.{number_of, spelled, written}
 use Rattle.nv_once_script.specs.OnceWords.{lines_of, without_last_feed, words_in, words_of}
-use Rattle.nv_replay_script.specs.ReplayLines.{after_lines, after_words, script_by}
+use Rattle.nv_once_script.specs.OnceFold.{after_lines, after_words, script_by}
 use Rattle.nv_run_script.specs.RunScript.{script_of}
 use Rattle.nv_replay_script.specs.ReplayVocabulary.{keyword_of, vocabulary}
 use Rattle.nv_run_script.proofs.rows.examples.Goals as goal

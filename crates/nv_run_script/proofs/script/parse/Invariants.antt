@@ -1,6 +1,6 @@
 use Rattle.std.proofs.Common.{◌≡◌, ◌+◌, length}
 use Rattle.nv_once_script.specs.OnceWords.{lines_of}
-use Rattle.nv_replay_script.specs.ReplayLines.{after_lines}
+use Rattle.nv_once_script.specs.OnceFold.{after_lines}
 use Rattle.nv_run_script.specs.RunScript.{after_line, nothing, progress}
 use Rattle.nv_run_script.proofs.script.parse.Given as goal
 

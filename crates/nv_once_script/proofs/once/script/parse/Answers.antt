@@ -1,7 +1,8 @@
 use Rattle.std.proofs.Common.{◌+◌, ap, length, ◌∙◌, sym, arith}
-use Rattle.nv_once_script.specs.OnceScript.{after_lines, progress}
+use Rattle.nv_once_script.specs.OnceFold.{after_lines}
+use Rattle.nv_once_script.specs.OnceScript.{after_line, finished, nothing, progress, script_of, script_value}
+use Rattle.nv_once_script.proofs.OnceFoldLemmas.{after_lines-read, script_by-refused, script_by-finished}
 use Rattle.nv_once_script.proofs.OnceRangeLemmas.{IsInRange-parsed}
-use Rattle.nv_once_script.proofs.OnceScriptLemmas.{after_lines-read, script_of-refused, script_of-finished}
 use Rattle.nv_once_script.proofs.once.script.parse.Goals as goal
 
 pub overflow_add-number : goal.overflow_add-number
@@ -13,10 +14,11 @@ overflow_add-number c =
     omega arith
 
 pub returns-in-Err-clause-value : goal.returns-in-Err-clause-value
+unfolding script_of
 returns-in-Err-clause-value c =
     rw c.on.ensures
-    (script_of-refused (c.loop-line.number + 1) (progress c.loop-line.reading) c.args.text.now c.in-Some.line.now c.next.new.self c.in-Err.fault
-    (ap (after_lines (c.loop-line.number + 1) (progress c.loop-line.reading)) (sym c.in-Some.ensures.steps) ∙ c.loop-line.invariant.kept) c.in-Err.ensures)
+    (script_by-refused after_line finished nothing (c.loop-line.number + 1) (progress c.loop-line.reading) c.args.text.now c.in-Some.line.now
+    c.loop-line.lines c.next.new.self c.in-Err.fault c.in-Some.ensures.steps c.loop-line.invariant.kept c.in-Err.ensures)
 
 pub loop-line-preserved : goal.loop-line-preserved
 loop-line-preserved c =
@@ -24,23 +26,21 @@ loop-line-preserved c =
     let count = c.loop-line.invariant.count in
     record {
       count = omega arith;
-      kept = sym (ap (after_lines (c.loop-line.number + 1) (progress c.loop-line.reading)) c.in-Some.ensures.steps
-          ∙ after_lines-read (c.loop-line.number + 1) (progress c.loop-line.reading) (progress c.read.new.self) c.in-Some.line.now c.next.new.self c.in_default-read.ensures)
+      kept = sym (ap (after_lines after_line (c.loop-line.number + 1) (progress c.loop-line.reading)) c.in-Some.ensures.steps
+          ∙ after_lines-read after_line (c.loop-line.number + 1) (progress c.loop-line.reading) (progress c.read.new.self)
+          c.in-Some.line.now c.next.new.self c.in_default-read.ensures)
           ∙ c.loop-line.invariant.kept;
     }
 
 pub returns-clause-value : goal.returns-clause-value
+unfolding script_of
 returns-clause-value c =
-    let none = c.in_default.ensures.steps.0 in
-    let left = ap length none in
-    let count = c.loop-line.invariant.count in
-    script_of-finished c.loop-line.number (progress c.loop-line.reading) c.args.text.now c.finish.result (omega arith)
-    (ap (after_lines (c.loop-line.number + 1) (progress c.loop-line.reading)) (sym none) ∙ c.loop-line.invariant.kept) c.finish.ensures
+    script_by-finished after_line finished nothing script_value c.loop-line.number (progress c.loop-line.reading) c.args.text.now
+    c.loop-line.lines c.finish.result c.in_default.ensures.steps.0 c.loop-line.invariant.count c.loop-line.invariant.kept c.finish.ensures
 
 pub returns-clause-in_range : goal.returns-clause-in_range
+unfolding script_of
 returns-clause-in_range c =
-    let none = c.in_default.ensures.steps.0 in
-    let left = ap length none in
-    let count = c.loop-line.invariant.count in
-    IsInRange-parsed c.args.text.now c.finish.result (script_of-finished c.loop-line.number (progress c.loop-line.reading) c.args.text.now c.finish.result (omega arith)
-    (ap (after_lines (c.loop-line.number + 1) (progress c.loop-line.reading)) (sym none) ∙ c.loop-line.invariant.kept) c.finish.ensures)
+    IsInRange-parsed c.args.text.now c.finish.result
+    (script_by-finished after_line finished nothing script_value c.loop-line.number (progress c.loop-line.reading) c.args.text.now
+    c.loop-line.lines c.finish.result c.in_default.ensures.steps.0 c.loop-line.invariant.count c.loop-line.invariant.kept c.finish.ensures)

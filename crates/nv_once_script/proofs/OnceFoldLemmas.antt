@@ -1,5 +1,5 @@
 -- Lines one after another, of a script of any kind
-use Rattle.std.proofs.Common.{◌≡◌, ℕ, ◌+◌, List, [], ◌∷◌, length, Result, Ok, Err, refl, sym, ap, ◌∙◌, arith, inl, inr, ◌⊎◌}
+use Rattle.std.proofs.Common.{◌≡◌, ℕ, ◌+◌, List, [], ◌∷◌, length, Option, Result, Ok, Err, refl, sym, ap, ◌∙◌, arith, inl, inr, ◌⊎◌}
 use Rattle.std.specs.Option.{ok_or}
 use Rattle.std.specs.Prelude.{MatchResult}
 use Rattle.nv_once_script.specs.declared.once.fault.FaultKind.{FaultKind}
@@ -9,31 +9,34 @@ use Rattle.nv_once_script.specs.declared.once.fault.LineFault.TheVariants.{Fault
 use Rattle.nv_once_script.specs.declared.once.fault.ScriptFault.{ScriptFault}
 use Rattle.nv_once_script.specs.declared.once.fault.ScriptFault.TheVariants as fault
 use Rattle.nv_once_script.specs.OnceFault.{Refuses, fault_on}
+use Rattle.nv_once_script.specs.OnceFold.{after_lines, after_words, script_by}
 use Rattle.nv_once_script.specs.OnceWords.{lines_of, words_of}
-use Rattle.nv_replay_script.specs.declared.vocabulary.Keyword.{Keyword}
-use Rattle.nv_replay_script.specs.ReplayLines.{after_lines, after_words, script_by}
-use Rattle.nv_replay_script.specs.ReplayVocabulary.{keyword_of}
 
 -- ---- a line
 
--- what lines add by their keywords
-abbrev pub ByKeyword : Type 0 → Type 0
-ByKeyword P = Keyword → List (List ℕ) → Result P FaultKind
+-- what the first words of lines are, and what lines add by that
+abbrev pub Known : Type 0 → Type 0
+Known K = List ℕ → Option K
 
-pub after_words-none : {P : Type 0} → (by : ByKeyword P) (p : P) (words : List (List ℕ)) → words ≡ [] → after_words by p words ≡ Ok p
-unfolding after_words
-after_words-none by p words e = rw e refl
+abbrev pub ByKeyword : Type 0 → Type 0 → Type 0
+ByKeyword K P = K → List (List ℕ) → Result P FaultKind
 
-pub after_words-unknown : {P : Type 0} → (by : ByKeyword P) (p : P) (words : List (List ℕ)) (first : List ℕ) (rest : List (List ℕ))
-    (kind : FaultKind) → words ≡ first ∷ rest
-    → ok_or (keyword_of first) UnknownWord ≡ Err kind → after_words by p words ≡ Err kind
+pub after_words-none : {K P : Type 0} → (known : Known K) (by : ByKeyword K P) (p : P) (words : List (List ℕ)) → words ≡ []
+    → after_words known by p words ≡ Ok p
 unfolding after_words
-after_words-unknown by p words first rest kind e unknown = rw (e, unknown) refl
+after_words-none known by p words e = rw e refl
 
-pub after_words-known : {P : Type 0} → (by : ByKeyword P) (p : P) (words : List (List ℕ)) (first : List ℕ) (rest : List (List ℕ))
-    (k : Keyword) → words ≡ first ∷ rest → ok_or (keyword_of first) UnknownWord ≡ Ok k → after_words by p words ≡ by k rest
+pub after_words-unknown : {K P : Type 0} → (known : Known K) (by : ByKeyword K P) (p : P) (words : List (List ℕ))
+    (first : List ℕ) (rest : List (List ℕ)) (kind : FaultKind) → words ≡ first ∷ rest
+    → ok_or (known first) UnknownWord ≡ Err kind → after_words known by p words ≡ Err kind
 unfolding after_words
-after_words-known by p words first rest k e known = rw (e, known) refl
+after_words-unknown known by p words first rest kind e unknown = rw (e, unknown) refl
+
+pub after_words-known : {K P : Type 0} → (known : Known K) (by : ByKeyword K P) (p : P) (words : List (List ℕ))
+    (first : List ℕ) (rest : List (List ℕ)) (k : K) → words ≡ first ∷ rest
+    → ok_or (known first) UnknownWord ≡ Ok k → after_words known by p words ≡ by k rest
+unfolding after_words
+after_words-known known by p words first rest k e is = rw (e, is) refl
 
 -- ---- a script
 
