@@ -17,6 +17,7 @@ use Rattle.nv_once_script.specs.OnceFault.{◌>>=◌}
 use Rattle.nv_once_script.specs.OnceFold.{after_lines, after_words, on_line, script_by}
 use Rattle.nv_once_script.specs.OnceLine.{LineValue, if_there, is_there, line_of}
 use Rattle.nv_once_script.specs.OnceLine as value
+use Rattle.nv_once_script.specs.OnceLimits.{longest_fill}
 use Rattle.nv_once_script.specs.OnceNumber.{bytes_of, entry_of, number_of, number_up_to}
 use Rattle.nv_once_script.specs.OnceScript.{IsInRange, Progress, ScriptValue, after_body, after_keyword, after_line, both, counted_keyword, finished}
 use Rattle.nv_once_script.specs.OnceScript.{first_time, nothing, script_of, script_value, sizes_in}
@@ -58,7 +59,7 @@ line_of-there sizes Store (addr ∷ digits ∷ []) line h =
     line_tested sizes (value.Store a.0 b.0) line b.2
 line_of-there sizes Fill (addr ∷ len ∷ byte ∷ []) line h =
     let a = steps (number_of addr) _ line h in
-    let n = steps (number_up_to 131072 len) _ line a.2 in
+    let n = steps (number_up_to longest_fill len) _ line a.2 in
     let b = steps (number_up_to 255 byte) _ line n.2 in
     line_tested sizes (value.Fill a.0 n.0 b.0) line b.2
 line_of-there sizes Paint (block ∷ byte ∷ []) line h =

@@ -1,19 +1,7 @@
--- The limits of a script, each under one name (profile). This crate is beside `nv_model`, whose limits name the first three, too: a controller of
--- one guest has them, and the limit of a fill is the most bytes of a transfer.
+-- The limit that only scripts have; the others are those of `nv_model` (profile)
 use Rattle.std.specs.Prelude.{ℕ}
+use Rattle.nv_model.specs.Limits.{most_bytes}
 
--- the bytes of a page: a memory has whole ones
-abbrev pub page : ℕ
-page = 4096
-
--- the most bytes of the memory
-abbrev pub largest_memory : ℕ
-largest_memory = 16777216
-
--- the most blocks of the namespace
-abbrev pub largest_namespace : ℕ
-largest_namespace = 65536
-
--- the most bytes that one `fill` line writes
+-- the most bytes that one `fill` line writes: as many as one command transfers at most
 abbrev pub longest_fill : ℕ
-longest_fill = 131072
+longest_fill = most_bytes

@@ -1,9 +1,9 @@
 -- The sizes that a script's set-up names
 use Rattle.std.specs.Prelude.{ℕ, ◌%◌, ◌==◌, ◌&&◌, nat_le, Bool, List, Result, Ok, Err, if◌then◌else◌}
+use Rattle.nv_model.specs.Limits.{largest_memory, largest_namespace, page}
 use Rattle.nv_once_script.specs.declared.once.fault.FaultKind.{FaultKind}
 use Rattle.nv_once_script.specs.declared.once.fault.FaultKind.TheVariants.{BadNumber}
 use Rattle.nv_once_script.specs.OnceFault.{◌>>=◌}
-use Rattle.nv_once_script.specs.OnceLimits.{largest_memory, largest_namespace, page}
 use Rattle.nv_once_script.specs.OnceNumber.{number_of}
 
 -- whether a memory may have this size: whole pages, at least one

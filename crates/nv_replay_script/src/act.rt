@@ -11,14 +11,12 @@ use crate::vocabulary::ActKind;
 use nv_mem::BoxedBytes;
 use nv_model::Act;
 use nv_once_script::FaultKind;
+use nv_once_script::once::FILL_MAX;
 use nv_once_script::once::fault::LineFault;
 use nv_once_script::once::number::{byte, bytes, number, up_to};
 use nv_once_script::once::word::Word;
 use nv_once_script::once::words::Words;
 use std::alloc::{AllocError, Global};
-
-/// The most bytes that one `fill` line writes.
-const FILL_MAX: u64 = 131_072;
 
 /// Makes the act from this kind and the words after its guest, which are as many as the kind needs.
 ///

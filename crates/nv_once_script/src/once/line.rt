@@ -12,6 +12,7 @@ use crate::once::vocabulary::Keyword;
 use crate::once::word::Word;
 use crate::once::words::Words;
 use nv_entry::Sqe;
+use nv_model::limits::MOST_COMMAND_BYTES;
 use std::alloc::Global;
 
 /// One line of a script, after its set-up.
@@ -31,8 +32,8 @@ pub enum Line {
     Block { block: u64 },
 }
 
-/// The most bytes that one `fill` line writes.
-const FILL_MAX: u64 = 131_072;
+/// The most bytes that one `fill` line writes: as many as one command transfers at most.
+pub const FILL_MAX: u64 = MOST_COMMAND_BYTES;
 
 // Whether so many bytes from an address on lie in a memory of this size. For no bytes any address will do.
 fn is_in(memory: u64, addr: u64, len: u64) -> bool

@@ -17,5 +17,5 @@ pub mod word;
 pub mod words;
 
 pub use fault::{FaultKind, ScriptFault};
-pub use line::Line;
+pub use line::{FILL_MAX, Line};
 pub use script::{Script, parse};

@@ -7,10 +7,11 @@ use crate::once::fault::{FaultKind, LineFault};
 use crate::once::hexadecimal::spell;
 use crate::once::word::Word;
 use nv_entry::Sqe;
+use nv_model::limits::SQE_SIZE;
 use std::alloc::Global;
 
 /// The bytes of a submission queue entry.
-const ENTRY: usize = 64;
+const ENTRY: usize = SQE_SIZE as usize;
 
 // The number that these digits spell, or `None` where they are none, are not all digits, or spell one beyond 64 bits. It is in the program once for
 // each base, so that what a digit may be is known where the digit is examined.

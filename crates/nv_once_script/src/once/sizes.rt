@@ -5,6 +5,7 @@ ghost use Rattle.nv_once_script.specs.OnceSizes.{block_count, memory_size};
 use crate::once::fault::FaultKind;
 use crate::once::number::number;
 use crate::once::word::Word;
+use nv_model::limits::{LARGEST_MEMORY, LARGEST_NAMESPACE, PAGE_SIZE};
 
 /// The sizes that the set-up names.
 #[derive(Clone, Copy, Debug, PartialEq, Eq)]
@@ -15,25 +16,16 @@ pub struct Sizes {
     pub blocks: u64,
 }
 
-/// The bytes of a page.
-const PAGE: u64 = 4_096;
-
-/// The most bytes of the memory.
-const MEMORY_MAX: u64 = 16_777_216;
-
-/// The most blocks of the namespace.
-const BLOCKS_MAX: u64 = 65_536;
-
-/// The size of the memory that a word writes: 1 to 4,096 pages.
+/// The size of the memory that a word writes: whole pages, at least one.
 ///
 /// # Errors
 ///
-/// [`FaultKind::BadNumber`] where the word is no number, or writes no multiple of 4,096 from 4,096 to 16,777,216.
+/// [`FaultKind::BadNumber`] where the word is no number, or writes no multiple of [`PAGE_SIZE`] from [`PAGE_SIZE`] to [`LARGEST_MEMORY`].
 pub fn memory(word: Word<'_>) -> Result<u64, FaultKind>
     ensures { result ≡ memory_size word.entry }
 {
     let size = number(word)?;
-    if size < PAGE || size > MEMORY_MAX || size % PAGE != 0 {
+    if size < PAGE_SIZE || size > LARGEST_MEMORY || size % PAGE_SIZE != 0 {
         return Err(FaultKind::BadNumber);
     }
     Ok(size)
@@ -43,12 +35,12 @@ pub fn memory(word: Word<'_>) -> Result<u64, FaultKind>
 ///
 /// # Errors
 ///
-/// [`FaultKind::BadNumber`] where the word is no number, or writes none from 1 to 65,536.
+/// [`FaultKind::BadNumber`] where the word is no number, or writes none from 1 to [`LARGEST_NAMESPACE`].
 pub fn blocks(word: Word<'_>) -> Result<u64, FaultKind>
     ensures { result ≡ block_count word.entry }
 {
     let count = number(word)?;
-    if count < 1 || count > BLOCKS_MAX {
+    if count < 1 || count > LARGEST_NAMESPACE {
         return Err(FaultKind::BadNumber);
     }
     Ok(count)
