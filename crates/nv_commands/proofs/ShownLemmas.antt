@@ -1,7 +1,7 @@
 -- Bytes moved in chunks, and lines shown one after another
-use Rattle.std.proofs.Common.{◌≡◌, ℕ, zero, suc, ◌+◌, ◌≤◌, Bool, List, [], ◌∷◌, ◌++◌, length, take, drop, refl, sym, ap, ◌∙◌, arith, append_assoc, subst}
+use Rattle.std.proofs.Common.{◌≡◌, ℕ, ◌+◌, ◌≤◌, Bool, List, [], ◌∷◌, ◌++◌, length, take, drop, refl, sym, ap, ◌∙◌, arith, append_assoc, subst}
 use Rattle.std.proofs.lemmas.List.{length-append, length-take, drop-drop, append-nil}
-use Rattle.std.proofs.Math.Seq.{take-nil, drop-nil, take-append_seam, drop-append-add}
+use Rattle.std.proofs.Math.Seq.{take-add, take-append_seam, drop-append-add}
 use Rattle.nv_mem.specs.Bytes.{after_store, bytes_at}
 use Rattle.nv_disk.specs.Flat.{Flat}
 use Rattle.nv_once_script.specs.OnceLine.{LineValue}
@@ -9,20 +9,11 @@ use Rattle.nv_commands.specs.Shown.{AreShown, IsShown}
 
 -- ---- chunks
 
-take-sum : {A : Type 0} → (n k : ℕ) (xs : List A) → take (n + k) xs ≡ take n xs ++ take k (drop n xs)
-take-sum zero k xs =
-    let e : 0 + k ≡ k = omega arith in
-    rw e refl
-take-sum (suc n) k [] = take-nil (suc n + k) ∙ sym (ap (take k) (drop-nil (suc n)) ∙ take-nil k)
-take-sum (suc n) k (x ∷ xs) =
-    let e : suc n + k ≡ suc (n + k) = omega arith in
-    rw e (ap (λ ys. x ∷ ys) (take-sum n k xs))
-
 -- bytes are those of their parts
 pub bytes_at-append : (memory : List ℕ) (addr n k : ℕ)
     → bytes_at memory addr (n + k) ≡ bytes_at memory addr n ++ bytes_at memory (addr + n) k
 bytes_at-append memory addr n k =
-    take-sum n k (drop addr memory) ∙ ap (λ xs. take n (drop addr memory) ++ take k xs) (drop-drop n addr memory)
+    take-add n k (drop addr memory) ∙ ap (λ xs. take n (drop addr memory) ++ take k xs) (drop-drop n addr memory)
 
 -- bytes stored behind bytes that were stored
 pub after_store-append : (memory xs ys : List ℕ) (addr : ℕ) → addr + length xs ≤ length memory
