@@ -5,6 +5,7 @@ use Rattle.hex.specs.Hex.{decode_sized}
 use Rattle.nv_once_script.specs.OnceScript.{IsInRange, script_value}
 use Rattle.nv_replay.specs.Shown.{PrintsReplay}
 use Rattle.nv_run.specs.Played.{PrintsPlayed}
+use Rattle.nv_commands.specs.Command.{size_of}
 use Rattle.nv_commands.specs.Once.{IsScriptOf}
 use Rattle.nv_commands.specs.Replay.{IsReplayOf}
 use Rattle.nv_commands.specs.Printed.{completion_line, submission_line}
@@ -25,8 +26,8 @@ IsPrintable (job.Played played) = ⊤
 
 -- what is left to do of a command: the entry that its digits spell, the script that the text is, or what it comes to
 abbrev pub IsJobOf : Command → (text : Option (List ℕ)) → Job → Type 0
-IsJobOf (Decode kind.Submission digits) text (job.Submission entry) = decode_sized digits.now 64 ≡ Ok entry
-IsJobOf (Decode kind.Completion digits) text (job.Completion entry) = decode_sized digits.now 16 ≡ Ok entry
+IsJobOf (Decode kind.Submission digits) text (job.Submission entry) = decode_sized digits.now (size_of kind.Submission) ≡ Ok entry
+IsJobOf (Decode kind.Completion digits) text (job.Completion entry) = decode_sized digits.now (size_of kind.Completion) ≡ Ok entry
 IsJobOf Once text (job.Script script) = IsScriptOf text (script_value script) × IsInRange (script_value script)
 IsJobOf Replay text (job.Replay replay) = IsReplayOf text replay
 IsJobOf _ text _ = ⊥
