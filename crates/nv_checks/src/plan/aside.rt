@@ -2,8 +2,8 @@
 
 use crate::memory::run;
 use crate::plan::chain::{CHAIN, ROWS};
-use crate::plan::fed::{begun, feed, is_chain, over_a_join};
-use crate::plan::guest::{Changes, Expected, Guest, is_expected, joined};
+use crate::plan::fed::{Way, begun, fed, feed, is_chain, over_a_join};
+use crate::plan::guest::{Changes, Expected, Guest, command, is_expected, joined};
 use crate::plan::plans::CHAINED;
 use crate::plan::ranges::{PARTED, TRANSLATED, has_ranges, lying_apart};
 use nv_model::limits::MOST_DESCRIPTORS;
@@ -18,34 +18,15 @@ const CHAINED_PLACES: Expected = Expected::Direct(&[
     run!(0x9000, 4096),
 ]);
 
-// Feeds the plan of a command until it wants nothing more, and puts it aside before each read: what comes of it, and how often it was fed.
+// What comes of a command whose plan is put aside before each read, and how often it was fed.
 fn fed_in_turns(
     rt: &impl Abort,
     alloc: Global,
     guest: &Guest,
     changes: Changes,
 ) -> Option<(Planned, u32)> {
-    let mut planning = begun(rt, alloc, guest, changes);
-    for count in 0..3000u32 {
-        planning = taken_up(rt, alloc, guest, planning);
-        if !feed(alloc, guest, &mut planning).expect(rt, "memory") {
-            return Some((planning.finish(), count));
-        }
-    }
-    None
-}
-
-// A plan that was put aside, and taken up again.
-fn taken_up<'a>(
-    rt: &impl Abort,
-    alloc: Global,
-    guest: &'a Guest,
-    planning: Planning<'a, Global>,
-) -> Planning<'a, Global> {
-    let aside = planning.put_aside().expect(rt, "a plan that is put aside");
-    Planning::resume(aside, alloc, &guest.map, &guest.ns, MOST_DESCRIPTORS)
-        .ok()
-        .expect(rt, "a plan that goes on")
+    let sqe = command(rt, changes);
+    fed(rt, alloc, guest, sqe, MOST_DESCRIPTORS, Way::Aside)
 }
 
 #[test]

@@ -8,7 +8,7 @@ use crate::plan::ranges::{PARTED, TRANSLATED, has_ranges, lying_apart};
 use nv_entry::Sqe;
 use nv_mem::NoMemory;
 use nv_model::limits::MOST_DESCRIPTORS;
-use nv_plan::{Job, Next, Planned, Planning};
+use nv_plan::{Job, Next, Planned, Planning, make_plan};
 use nv_refusing::Refusing;
 use std::alloc::{Allocator, Global};
 use std::process::Abort;
@@ -30,25 +30,139 @@ pub fn feed<A: Allocator + Clone>(
     Ok(true)
 }
 
-/// Feeds the plan of a command of which nothing was read until it wants nothing more: what comes of it, and how often it was fed.
+/// A command on its way to its plan.
+#[derive(Drop)]
+enum Stage<'a> {
+    Fed(Planning<'a, Global>),
+    Aside(Planning<'a, Global>),
+    Anew(Job),
+}
+
+/// How what is read of a command's list reaches its plan.
+#[derive(Clone, Copy, Debug)]
+pub enum Way {
+    /// The plan is fed it.
+    Fed,
+    /// The same, but the plan is put aside before each read.
+    Aside,
+    /// A plan is made anew after each read.
+    Anew,
+}
+
+/// All ways.
+pub const WAYS: &[Way] = &[Way::Fed, Way::Aside, Way::Anew];
+
+// The plan of a job as it is.
+fn begun_of<'a>(
+    rt: &impl Abort,
+    alloc: Global,
+    guest: &'a Guest,
+    job: Job,
+    limit: u32,
+) -> Planning<'a, Global>
+    requires some { 0 < limit }
+    requires most { limit ≤ 4096 }
+{
+    Planning::new(alloc, alloc, job, &guest.map, &guest.ns, limit)
+        .ok()
+        .expect(rt, "a plan")
+}
+
+// A plan that was put aside, and taken up again.
+fn taken_up<'a>(
+    rt: &impl Abort,
+    alloc: Global,
+    guest: &'a Guest,
+    planning: Planning<'a, Global>,
+    limit: u32,
+) -> Planning<'a, Global> {
+    let aside = planning.put_aside().expect(rt, "a plan that is put aside");
+    Planning::resume(aside, alloc, &guest.map, &guest.ns, limit)
+        .ok()
+        .expect(rt, "a plan that goes on")
+}
+
+// Feeds a plan once: the plan, or what comes of it where it wants nothing more.
+fn fed_once<'a>(
+    rt: &impl Abort,
+    alloc: Global,
+    guest: &'a Guest,
+    planning: Planning<'a, Global>,
+) -> Result<Planning<'a, Global>, Planned> {
+    let mut planning = planning;
+    if feed(alloc, guest, &mut planning).expect(rt, "memory") {
+        Ok(planning)
+    } else {
+        Err(planning.finish())
+    }
+}
+
+// Makes the plan of a job: the job with what is wanted read, or what comes of it where nothing is wanted.
+fn made_once(
+    rt: &impl Abort,
+    alloc: Global,
+    guest: &Guest,
+    job: Job,
+    limit: u32,
+) -> Result<Job, Planned>
+    requires some { 0 < limit }
+    requires most { limit ≤ 4096 }
+{
+    match make_plan(alloc, alloc, job, &guest.map, &guest.ns, limit) {
+        Planned::Need(mut job, addr, len) => {
+            guest.read(rt, alloc, addr, len, &mut job.reads);
+            Ok(job)
+        }
+        planned => Err(planned),
+    }
+}
+
+// Reads what is wanted next: the next stage, or what comes of the command where nothing is wanted.
+fn next_stage<'a>(
+    rt: &impl Abort,
+    alloc: Global,
+    guest: &'a Guest,
+    stage: Stage<'a>,
+    limit: u32,
+) -> Result<Stage<'a>, Planned>
+    requires some { 0 < limit }
+    requires most { limit ≤ 4096 }
+{
+    match stage {
+        Stage::Fed(planning) => Ok(Stage::Fed(fed_once(rt, alloc, guest, planning)?)),
+        Stage::Aside(planning) => {
+            let planning = taken_up(rt, alloc, guest, planning, limit);
+            Ok(Stage::Aside(fed_once(rt, alloc, guest, planning)?))
+        }
+        Stage::Anew(job) => Ok(Stage::Anew(made_once(rt, alloc, guest, job, limit)?)),
+    }
+}
+
+/// Reads what is wanted of a command's list until nothing is: what comes of it, and how often something was wanted.
 pub fn fed(
     rt: &impl Abort,
     alloc: Global,
     guest: &Guest,
     sqe: Sqe,
     limit: u32,
+    way: Way,
 ) -> Option<(Planned, u32)>
     requires some { 0 < limit }
     requires most { limit ≤ 4096 }
 {
     let job = guest.job(rt, alloc, sqe, &[]);
-    let made = Planning::new(alloc, alloc, job, &guest.map, &guest.ns, limit);
-    let mut planning = made.ok().expect(rt, "a plan");
+    let mut stage = match way {
+        Way::Fed => Stage::Fed(begun_of(rt, alloc, guest, job, limit)),
+        Way::Aside => Stage::Aside(begun_of(rt, alloc, guest, job, limit)),
+        Way::Anew => Stage::Anew(job),
+    };
     for count in 0..3000u32 {
-        if !feed(alloc, guest, &mut planning).expect(rt, "memory") {
-            return Some((planning.finish(), count));
+        match next_stage(rt, alloc, guest, stage, limit) {
+            Ok(next) => stage = next,
+            Err(planned) => return Some((planned, count)),
         }
     }
+    drop(stage);
     None
 }
 
@@ -71,16 +185,15 @@ fn begun_after<'a>(
     reads: &[(u64, u64)],
 ) -> Planning<'a, Global> {
     let job = guest.job(rt, alloc, command(rt, changes), reads);
-    Planning::new(alloc, alloc, job, &guest.map, &guest.ns, MOST_DESCRIPTORS)
-        .ok()
-        .expect(rt, "a plan")
+    begun_of(rt, alloc, guest, job, MOST_DESCRIPTORS)
 }
 
 #[test]
 fn the_bytes_of_ranges_after_their_list(rt: HostRuntime) {
     let alloc = rt.alloc();
     let guest = lying_apart(&rt, alloc);
-    let came = fed(&rt, alloc, &guest, command(&rt, PARTED), MOST_DESCRIPTORS);
+    let sqe = command(&rt, PARTED);
+    let came = fed(&rt, alloc, &guest, sqe, MOST_DESCRIPTORS, Way::Fed);
     let (planned, count) = came.expect(&rt, "a plan");
     assert!(rt; count == 3 && has_ranges(&planned, TRANSLATED));
 }

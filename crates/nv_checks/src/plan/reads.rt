@@ -1,12 +1,10 @@
 //! What is wanted of a list, and which reads meet it.
-ghost use Rattle.std.specs.Prelude.{◌<◌, ◌≤◌};
-
 use crate::memory::{DATA, LAST, SEGMENT};
-use crate::plan::fed::fed;
+use crate::plan::fed::{WAYS, Way, fed};
 use crate::plan::guest::{
     Case, Changes, Expected, Guest, Row, check_all, command, is_expected, range,
 };
-use nv_entry::{Sqe, StatusCode};
+use nv_entry::StatusCode;
 use nv_mem::Piece;
 use nv_plan::{Planned, make_plan};
 use std::alloc::Global;
@@ -128,31 +126,6 @@ fn arrays_in_their_order(rt: HostRuntime) {
     check_all(&rt, rt.alloc(), CHAINED);
 }
 
-// Reads what is wanted until there is a plan, and says how often that was.
-fn driven(
-    rt: &impl Abort,
-    alloc: Global,
-    guest: &Guest,
-    sqe: Sqe,
-    limit: u32,
-) -> Option<(Planned, u32)>
-    requires some { 0 < limit }
-    requires most { limit ≤ 4096 }
-{
-    let mut next = guest.job(rt, alloc, sqe, &[]);
-    for count in 0..3000u32 {
-        match make_plan(alloc, alloc, next, &guest.map, &range(), limit) {
-            Planned::Need(mut job, addr, len) => {
-                guest.read(rt, alloc, addr, len, &mut job.reads);
-                next = job;
-            }
-            planned => return Some((planned, count)),
-        }
-    }
-    drop(next);
-    None
-}
-
 /// A list in a guest's memory, the limit on descriptors, what comes of it, and how often something is wanted before.
 #[derive(Drop)]
 struct Limited {
@@ -164,23 +137,16 @@ struct Limited {
     wants: u32,
 }
 
-// Whether what comes of such a list is what is expected, by a plan that is made anew after each read and by one that is fed.
-fn is_as_expected(rt: &impl Abort, alloc: Global, list: &Limited) -> bool {
+// Whether what comes of such a list is what is expected, after as many wants.
+fn is_as_expected(rt: &impl Abort, alloc: Global, list: &Limited, way: Way) -> bool {
     let guest = Guest::with(rt, alloc, list.rows);
     let limit = list.limit;
     if limit == 0 || limit > 4096 {
         return false;
     }
     let sqe = command(rt, list.changes);
-    let by_driven = comes_to(&driven(rt, alloc, &guest, sqe, limit), list);
-    let by_fed = comes_to(&fed(rt, alloc, &guest, sqe, limit), list);
-    by_driven && by_fed
-}
-
-// Whether that comes after as many wants.
-fn comes_to(came: &Option<(Planned, u32)>, list: &Limited) -> bool {
-    match came {
-        Some((planned, wants)) => *wants == list.wants && is_expected(planned, &list.expected),
+    match fed(rt, alloc, &guest, sqe, limit, way) {
+        Some((planned, wants)) => wants == list.wants && is_expected(&planned, &list.expected),
         None => false,
     }
 }
@@ -255,10 +221,21 @@ const LIMITED: &[Limited] = &[
     },
 ];
 
+// Ends the test where a list comes to something else in one of the ways.
+fn check_limited(rt: &impl Abort, alloc: Global, list: &Limited) {
+    for way in WAYS {
+        assert!(rt;
+            is_as_expected(rt, alloc, list, *way),
+            "{}, {way:?}",
+            list.name
+        );
+    }
+}
+
 #[test]
 fn limits_on_descriptors(rt: HostRuntime) {
     for list in LIMITED {
-        assert!(rt; is_as_expected(&rt, rt.alloc(), list), "{}", list.name);
+        check_limited(&rt, rt.alloc(), list);
     }
 }
 
