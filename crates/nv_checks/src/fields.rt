@@ -1,6 +1,6 @@
 //! The checks of a command's fields, in their order.
 
-use crate::flat::changed;
+use crate::hand::changed;
 use crate::virtual_ns::namespace;
 use nv_entry::{Sqe, StatusCode};
 use nv_judge::judge_fields;

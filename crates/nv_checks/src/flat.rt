@@ -4,31 +4,10 @@ mod blocks;
 mod region_pages;
 mod segments;
 
-use byteorder::{ByteOrder, LittleEndian};
 use nv_entry::Sqe;
 use nv_flat::FlatController;
 use std::alloc::Global;
 use std::process::Abort;
-
-/// The dwords of a Read of one block from LBA 5 by one Data Block of 512 bytes at 3000h, CID 7.
-pub(crate) const READ: [u32; 16] = [
-    READ_BY_SGL,
-    1,
-    0,
-    0,
-    0,
-    0,
-    0x3000,
-    0,
-    0x200,
-    0,
-    5,
-    0,
-    0,
-    0,
-    0,
-    0,
-];
 
 /// Dword 0 of a Write, a Read and a Compare by an SGL, CID 7.
 pub(crate) const WRITE_BY_SGL: u32 = 0x0007_4001;
@@ -42,24 +21,6 @@ pub(crate) const SUCCESS: u32 = 0x0001_0007;
 
 /// The last dword of the completion of a Compare that differs.
 pub(crate) const DIFFERS: u32 = 0x050b_0007;
-
-/// The entry of these dwords.
-pub(crate) fn entry(dwords: [u32; 16]) -> Sqe {
-    let mut bytes = [0; 64];
-    LittleEndian::write_u32_into(&dwords, &mut bytes);
-    Sqe::of(&bytes)
-}
-
-/// The Read with some of its dwords changed.
-pub(crate) fn changed(rt: &impl Abort, changes: &[(usize, u32)]) -> Sqe {
-    let mut dwords = READ;
-    for (place, dword) in changes {
-        let place = *place;
-        assert!(rt; place < 16);
-        dwords[place] = *dword;
-    }
-    entry(dwords)
-}
 
 /// A controller with 20000h bytes of memory and 64 blocks, of which block 5 is filled with 55h and block 6 with 66h.
 pub(crate) fn prepared(rt: &impl Abort, alloc: Global) -> FlatController {

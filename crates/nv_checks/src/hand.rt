@@ -3,7 +3,43 @@
 ghost use Rattle.std.specs.Prelude.{length, ◌↔◌, IsTrue};
 ghost use Rattle.nv_mem.specs.Bytes.{InMemory};
 
+use byteorder::{ByteOrder, LittleEndian};
+use nv_entry::Sqe;
 use nv_mem::{Host, MemoryCell};
+use std::process::Abort;
+
+/// The dwords of a Read of one block from LBA 5 by one Data Block of 512 bytes at 3000h, CID 7.
+const READ: [u32; 16] = [
+    0x0007_4002,
+    1,
+    0,
+    0,
+    0,
+    0,
+    0x3000,
+    0,
+    0x200,
+    0,
+    5,
+    0,
+    0,
+    0,
+    0,
+    0,
+];
+
+/// That Read with some of its dwords changed.
+pub(crate) fn changed(rt: &impl Abort, changes: &[(usize, u32)]) -> Sqe {
+    let mut dwords = READ;
+    for (place, dword) in changes {
+        let place = *place;
+        assert!(rt; place < 16);
+        dwords[place] = *dword;
+    }
+    let mut bytes = [0; 64];
+    LittleEndian::write_u32_into(&dwords, &mut bytes);
+    Sqe::of(&bytes)
+}
 
 /// The bytes of an entry of this dword 0 and namespace, these PRP1 and PRP2, and these CDW10 to CDW12; everything else is 0.
 pub(crate) fn entry(dword0: u32, nsid: u32, prps: [u64; 2], dwords: [u32; 3]) -> [u8; 64] {

@@ -1,9 +1,10 @@
 //! Commands through one Data Block, or none.
 
 use crate::flat::{
-    COMPARE_BY_SGL, DIFFERS, SUCCESS, WRITE_BY_SGL, block_is, blocks_are, changed, filled_are,
-    is_kept, marks_are, prepared, put, run,
+    COMPARE_BY_SGL, DIFFERS, SUCCESS, WRITE_BY_SGL, block_is, blocks_are, filled_are, is_kept,
+    marks_are, prepared, put, run,
 };
+use crate::hand::changed;
 use nv_flat::FlatController;
 use std::alloc::Global;
 use std::process::Abort;
@@ -126,7 +127,7 @@ const CASES: &[Case] = &[
         blocks: &[],
         marks: &[(4, false), (5, true), (6, false)],
     },
-    // where a byte of a Compare's buffer is changed, and to what
+    // where a byte of a Compare's buffer is and to what
     // a Compare whose last byte differs
     Case {
         stored: &[(0x3000, 0x55, 512), (0x3200, 0x66, 512), (0x33ff, 0, 1)],

@@ -1,6 +1,7 @@
 //! Commands by PRP entries and lists.
 
-use crate::flat::{SUCCESS, changed, filled_are, put, run};
+use crate::flat::{SUCCESS, filled_are, put, run};
+use crate::hand::changed;
 use nv_entry::Sqe;
 use nv_flat::FlatController;
 use std::alloc::Global;

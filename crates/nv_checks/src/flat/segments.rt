@@ -1,9 +1,10 @@
 //! Commands by SGL segments.
 
 use crate::flat::{
-    COMPARE_BY_SGL, DIFFERS, READ_BY_SGL, SUCCESS, WRITE_BY_SGL, blocks_are, changed, filled_are,
-    prepared, put, run,
+    COMPARE_BY_SGL, DIFFERS, READ_BY_SGL, SUCCESS, WRITE_BY_SGL, blocks_are, filled_are, prepared,
+    put, run,
 };
+use crate::hand::changed;
 use nv_entry::Sqe;
 use nv_flat::FlatController;
 use std::alloc::Global;
@@ -224,7 +225,7 @@ fn check_compared(rt: &impl Abort, alloc: Global, rows: &[(u64, u32)]) {
     }
 }
 
-/// Where a byte is changed, and the last dword: after the first piece, the ends of the second, after it.
+/// Where a byte is and the last dword: after the first piece, the ends of the second, after it.
 const COMPARED: &[(u64, u32)] = &[
     (0x3064, SUCCESS),
     (0x4001, DIFFERS),

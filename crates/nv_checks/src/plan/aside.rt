@@ -1,9 +1,10 @@
 //! Plans that are put aside after each read, and go on.
 
+use crate::hand::changed;
 use crate::memory::run;
 use crate::plan::chain::{CHAIN, ROWS};
 use crate::plan::fed::{Way, begun, fed, feed, is_chain, over_a_join};
-use crate::plan::guest::{Changes, Expected, Guest, command, is_expected, joined};
+use crate::plan::guest::{Changes, Expected, Guest, is_expected, joined};
 use crate::plan::plans::CHAINED;
 use crate::plan::ranges::{PARTED, TRANSLATED, has_ranges, lying_apart};
 use nv_model::limits::MOST_DESCRIPTORS;
@@ -25,7 +26,7 @@ fn fed_in_turns(
     guest: &Guest,
     changes: Changes,
 ) -> Option<(Planned, u32)> {
-    let sqe = command(rt, changes);
+    let sqe = changed(rt, changes);
     fed(rt, alloc, guest, sqe, MOST_DESCRIPTORS, Way::Aside)
 }
 

@@ -2,8 +2,9 @@
 
 ghost use Rattle.std.specs.Prelude.{◌<◌, ◌≤◌};
 
+use crate::hand::changed;
 use crate::plan::chain::{CHAIN, ROWS, is_in_halves};
-use crate::plan::guest::{Changes, Guest, command, joined};
+use crate::plan::guest::{Changes, Guest, joined};
 use crate::plan::ranges::{PARTED, TRANSLATED, has_ranges, lying_apart};
 use nv_entry::Sqe;
 use nv_mem::NoMemory;
@@ -184,7 +185,7 @@ fn begun_after<'a>(
     changes: Changes,
     reads: &[(u64, u64)],
 ) -> Planning<'a, Global> {
-    let job = guest.job(rt, alloc, command(rt, changes), reads);
+    let job = guest.job(rt, alloc, changed(rt, changes), reads);
     begun_of(rt, alloc, guest, job, MOST_DESCRIPTORS)
 }
 
@@ -192,7 +193,7 @@ fn begun_after<'a>(
 fn the_bytes_of_ranges_after_their_list(rt: HostRuntime) {
     let alloc = rt.alloc();
     let guest = lying_apart(&rt, alloc);
-    let sqe = command(&rt, PARTED);
+    let sqe = changed(&rt, PARTED);
     let came = fed(&rt, alloc, &guest, sqe, MOST_DESCRIPTORS, Way::Fed);
     let (planned, count) = came.expect(&rt, "a plan");
     assert!(rt; count == 3 && has_ranges(&planned, TRANSLATED));
@@ -248,7 +249,7 @@ fn refused_once(
     guest: &Guest,
     granted: u64,
 ) -> bool {
-    let job = guest.job(rt, alloc, command(rt, CHAIN), &[]);
+    let job = guest.job(rt, alloc, changed(rt, CHAIN), &[]);
     let made = Planning::new(heap, alloc, job, &guest.map, &guest.ns, MOST_DESCRIPTORS);
     let mut planning = made.ok().expect(rt, "a plan");
     heap.refuse_after(granted);

@@ -3,8 +3,8 @@
 
 ghost use Rattle.std.specs.Prelude.{◌≡◌, IfOk};
 
+use crate::hand::changed;
 use crate::memory::{descriptor_bytes, map_of, part, store, whole_map};
-use byteorder::{ByteOrder, LittleEndian};
 use nv_entry::{Sqe, StatusCode};
 use nv_mem::{Bytes, GuestMap, NoMemory, Piece, Region};
 use nv_model::limits::MOST_DESCRIPTORS;
@@ -16,27 +16,8 @@ use std::process::Abort;
 /// A descriptor in the guest's memory: where it is, its last byte, its address and its length.
 pub type Row = (usize, u8, u64, u32);
 
-/// Dwords of an entry that differ from those of a Read of one block from LBA 5 by one Data Block of 512 bytes at 3000h, CID 7.
+/// Dwords of an entry that differ from those of the Read that [`changed`] changes.
 pub type Changes = &'static [(usize, u32)];
-
-const READ: [u32; 16] = [
-    0x0007_4002,
-    1,
-    0,
-    0,
-    0,
-    0,
-    0x3000,
-    0,
-    512,
-    0,
-    5,
-    0,
-    0,
-    0,
-    0,
-    0,
-];
 
 /// What is to come of a job: more is wanted, so many bytes at that address; or a plan of that kind, in
 /// one part with these places.
@@ -153,7 +134,7 @@ impl Guest {
         changes: &[(usize, u32)],
         reads: &[(u64, u64)],
     ) -> Planned {
-        let job = self.job(rt, alloc, command(rt, changes), reads);
+        let job = self.job(rt, alloc, changed(rt, changes), reads);
         self.plan(alloc, alloc, job)
     }
 
@@ -184,19 +165,6 @@ pub fn joined(rt: &impl Abort, first: (u64, u64), others: &[(u64, u64)]) -> Virt
         ns.push(next);
     }
     ns
-}
-
-/// The command with these dwords changed.
-pub fn command(rt: &impl Abort, changes: &[(usize, u32)]) -> Sqe {
-    let mut dwords = READ;
-    for (place, dword) in changes {
-        let place = *place;
-        assert!(rt; place < 16);
-        dwords[place] = *dword;
-    }
-    let mut bytes = [0; 64];
-    LittleEndian::write_u32_into(&dwords, &mut bytes);
-    Sqe::of(&bytes)
 }
 
 impl Expected {

@@ -1,6 +1,7 @@
 //! The parts of plans, in namespaces of several extents.
+use crate::hand::changed;
 use crate::memory::{BUCKET, DATA, run};
-use crate::plan::guest::{Changes, Guest, Row, command, joined};
+use crate::plan::guest::{Changes, Guest, Row, joined};
 use crate::plan::ranges::{TWO, has_part_ranges};
 use nv_entry::IoOpcode;
 use nv_mem::Piece;
@@ -232,7 +233,7 @@ fn check(rt: &impl Abort, alloc: Global, case: &Parted) {
 
 // How many tags a command takes.
 fn tags_of(rt: &impl Abort, guest: &Guest, changes: Changes) -> u8 {
-    tags_wanted(&command(rt, changes), &guest.ns)
+    tags_wanted(&changed(rt, changes), &guest.ns)
 }
 
 #[test]

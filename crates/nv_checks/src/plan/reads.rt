@@ -1,9 +1,8 @@
 //! What is wanted of a list, and which reads meet it.
+use crate::hand::changed;
 use crate::memory::{DATA, LAST, SEGMENT};
 use crate::plan::fed::{WAYS, Way, fed};
-use crate::plan::guest::{
-    Case, Changes, Expected, Guest, Row, check_all, command, is_expected, range,
-};
+use crate::plan::guest::{Case, Changes, Expected, Guest, Row, check_all, is_expected, range};
 use nv_entry::StatusCode;
 use nv_mem::Piece;
 use nv_plan::{Planned, make_plan};
@@ -144,7 +143,7 @@ fn is_as_expected(rt: &impl Abort, alloc: Global, list: &Limited, way: Way) -> b
     if limit == 0 || limit > 4096 {
         return false;
     }
-    let sqe = command(rt, list.changes);
+    let sqe = changed(rt, list.changes);
     match fed(rt, alloc, &guest, sqe, limit, way) {
         Some((planned, wants)) => wants == list.wants && is_expected(&planned, &list.expected),
         None => false,
@@ -241,7 +240,7 @@ fn limits_on_descriptors(rt: HostRuntime) {
 
 // What comes of a Segment that names itself, which was read so often, where 4,096 descriptors may be read.
 fn of_the_largest_limit(rt: &impl Abort, alloc: Global, guest: &Guest, count: u32) -> Planned {
-    let sqe = command(rt, &[(6, 0x6000), (8, 32), (9, 0x2000_0000)]);
+    let sqe = changed(rt, &[(6, 0x6000), (8, 32), (9, 0x2000_0000)]);
     let mut job = guest.job(rt, alloc, sqe, &[]);
     for _ in 0..count {
         guest.read(rt, alloc, 0x6000, 32, &mut job.reads);

@@ -1,7 +1,8 @@
 //! Memory that is refused: each allocation of the heap in turn, and then the same call again.
+use crate::hand::changed;
 use crate::memory::run;
 use crate::plan::chain::{CHAIN, ROWS, is_in_halves};
-use crate::plan::guest::{Guest, command, joined};
+use crate::plan::guest::{Guest, joined};
 use nv_mem::Piece;
 use nv_plan::{Job, Planned};
 use nv_refusing::Refusing;
@@ -55,7 +56,7 @@ fn refused_once(
 // How many allocations of the heap were refused, one after another; nothing where a refusal was not answered as such.
 fn refusals(rt: &impl Abort, heap: &Refusing<Global>, alloc: Global, guest: &Guest) -> Option<u64> {
     for granted in 0..100u64 {
-        let job = guest.job(rt, alloc, command(rt, CHAIN), READS);
+        let job = guest.job(rt, alloc, changed(rt, CHAIN), READS);
         match refused_once(heap, alloc, guest, job, granted) {
             Some(true) => {}
             Some(false) => return None,
