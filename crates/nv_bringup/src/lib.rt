@@ -15,7 +15,9 @@
 mod bring_up;
 mod entry;
 mod random;
+mod same;
 mod set_up;
+mod wild;
 
 pub use bring_up::{
     ADMIN_SUBMISSIONS, ADMIN_TAIL, BRING_UP, CC, COMPLETIONS, CREATE_COMPLETION_QUEUE,
@@ -23,6 +25,8 @@ pub use bring_up::{
 };
 pub use entry::{Fields, bytes_of};
 pub use random::Random;
+pub use same::{is_same_page, is_same_reply};
 pub use set_up::{
     BLOCKS, DISK, LIMIT, MEDIATOR, MEMORY, Span, extents_of, guest_at, guest_of, region, setup_of,
 };
+pub use wild::Wild;

@@ -8,9 +8,9 @@ use crate::desk::Form;
 use crate::guests::Guest;
 use crate::pair::Pair;
 use crate::two_guests::{AREA, BLOCKS, FIRST_BLOCK, GUEST_PAGES, GUESTS, opened};
-use crate::wild::{admin_command, attempt, some_length, some_register, some_row, somewhere};
+use crate::wild::WILD;
 use nv_bringup::{
-    ADMIN_SUBMISSIONS, ADMIN_TAIL, CC, DISABLED, HEAD, Random, SUBMISSIONS, TAIL, bytes_of,
+    ADMIN_SUBMISSIONS, ADMIN_TAIL, CC, DISABLED, HEAD, Random, SUBMISSIONS, TAIL, Wild, bytes_of,
 };
 use nv_entry::Status;
 use nv_model::Act;
@@ -64,12 +64,12 @@ impl Run {
 
     // Rows of lists are stored, and bytes anywhere.
     fn stores(&mut self, guest: u8) {
-        let (at, low, high) = some_row(&mut self.random);
+        let (at, low, high) = WILD.row(&mut self.random);
         self.pair.store_row(guest, at, low, high, Form::Plain);
-        let (at, low, high) = some_row(&mut self.random);
+        let (at, low, high) = WILD.row(&mut self.random);
         self.pair.store_row(guest, at, low, high, Form::Lent);
         if self.random.once_in(4) {
-            let at = somewhere(&mut self.random);
+            let at = WILD.somewhere(&mut self.random);
             let low = u64::from(self.random.word());
             self.pair.store_row(guest, at, low, low << 32, Form::Lent);
         }
@@ -84,7 +84,7 @@ impl Run {
             }
             sane(&mut self.random)
         } else {
-            attempt(&mut self.random)
+            WILD.command(&mut self.random)
         };
         let addr = SUBMISSIONS + 64 * u64::from(slot);
         let form = form(&mut self.random);
@@ -109,12 +109,13 @@ impl Run {
     // Bytes are loaded, and registers read and written.
     fn looks(&mut self, guest: u8) {
         for form in [Form::Plain, Form::Lent] {
-            let addr = somewhere(&mut self.random);
-            let len = some_length(&mut self.random) & 0x1fff;
+            let addr = WILD.somewhere(&mut self.random);
+            let len = Wild::length(&mut self.random) & 0x1fff;
             self.pair
                 .play(&Event::Guest(guest, Act::Load { addr, len }), form);
         }
-        let (offset, value) = some_register(&mut self.random);
+        let offset = Wild::offset(&mut self.random);
+        let value = WILD.value(&mut self.random);
         self.pair
             .plays(&Event::Guest(guest, Act::RegRead { offset }));
         if offset != CC || self.random.once_in(64) {
@@ -127,7 +128,8 @@ impl Run {
     // An admin command is put into the queue, and one is carried out.
     fn administers(&mut self, guest: u8) {
         let slot = self.random.below(32);
-        let entry = admin_command(&mut self.random);
+        let identifier = u16::from(self.random.byte());
+        let entry = WILD.admin_command(&mut self.random, identifier);
         let addr = ADMIN_SUBMISSIONS + 64 * u64::from(slot);
         self.pair.store(guest, addr, &bytes_of(&entry), Form::Plain);
         self.pair.ring(guest, ADMIN_TAIL, (slot % 32 + 1) % 32);
@@ -178,8 +180,8 @@ impl Run {
     // Any bytes are read for a command, though nobody asked.
     fn lists_else(&mut self, tag: u8) {
         if self.random.once_in(4) {
-            let addr = somewhere(&mut self.random);
-            let len = some_length(&mut self.random);
+            let addr = WILD.somewhere(&mut self.random);
+            let len = Wild::length(&mut self.random);
             self.pair.plays(&Event::List(0, tag, addr, len));
         }
     }

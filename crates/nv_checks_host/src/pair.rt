@@ -2,8 +2,9 @@
 
 use crate::counts::{Counts, Kind};
 use crate::desk::{Desk, Form};
+use nv_bringup::{is_same_page, is_same_reply};
 use nv_mediator::Mediator;
-use nv_mem::{BoxedBytes, Host, NoMemory, PAGE_SIZE};
+use nv_mem::{BoxedBytes, NoMemory, PAGE_SIZE};
 use nv_model::{Act, Reply};
 use nv_world_model::Event;
 use std::alloc::Global;
@@ -50,7 +51,7 @@ impl Pair {
             self.lost = true;
             return false;
         };
-        if !is_alike(&reply, &wanted) {
+        if !is_same_reply(&reply, &wanted) {
             self.note_difference(kind);
         }
         if self.again.is_none() && self.guests_again() != self.desk.plans().named_again() {
@@ -142,45 +143,5 @@ impl Pair {
         if self.differs.is_none() {
             self.differs = Some(kind);
         }
-    }
-}
-
-// Whether a page is the same in two hosts, which both have it.
-fn is_same_page(one: &Host, other: &Host, addr: u64) -> bool {
-    let mut first = [0; PAGE_SIZE as usize];
-    let mut second = [0; PAGE_SIZE as usize];
-    if !one.holds(addr, PAGE_SIZE) || !other.holds(addr, PAGE_SIZE) {
-        return false;
-    }
-    one.load(addr, &mut first);
-    other.load(addr, &mut second);
-    first == second
-}
-
-// Whether two replies are alike.
-fn is_alike(one: &Reply, other: &Reply) -> bool {
-    kind_of(one) == kind_of(other) && bytes_of(one) == bytes_of(other)
-}
-
-// A reply but for its bytes.
-fn kind_of(reply: &Reply) -> u8 {
-    match reply {
-        Reply::Done => 0,
-        Reply::Bytes(_) => 1,
-        Reply::Idle => 2,
-        Reply::Busy => 3,
-        Reply::Held => 4,
-        Reply::Stale => 5,
-        Reply::Unmapped => 6,
-        Reply::Ignored => 7,
-        Reply::NoMemory => 8,
-    }
-}
-
-// The bytes of a reply.
-fn bytes_of(reply: &Reply) -> &[u8] {
-    match reply {
-        Reply::Bytes(bytes) => bytes.as_slice(),
-        _ => &[],
     }
 }

@@ -6,7 +6,7 @@ use crate::beside::bench::{HONEST, HOSTILE};
 use crate::beside::runs::Runs;
 use crate::beside::tags::Tag;
 use nv_bringup::{
-    ADMIN_SUBMISSIONS, ADMIN_TAIL, CC, DISABLED, ENABLED, Random, SUBMISSIONS, TAIL, bytes_of,
+    ADMIN_SUBMISSIONS, ADMIN_TAIL, CC, DISABLED, ENABLED, Random, SUBMISSIONS, TAIL, Wild, bytes_of,
 };
 use nv_entry::Status;
 use nv_world_model::Event;
@@ -73,35 +73,6 @@ const OPCODES: &[u32] = &[
     0xc002, 0x4102, 0x0004, 0x00ff,
 ];
 
-/// Lengths and types of descriptors: their last two dwords.
-const LENGTHS: &[u32] = &[
-    0,
-    16,
-    24,
-    32,
-    48,
-    256,
-    512,
-    512,
-    512,
-    1024,
-    4096,
-    8192,
-    0xffff_ffff,
-];
-
-const TYPES: &[u32] = &[
-    0,
-    0,
-    0,
-    0,
-    0x1000_0000,
-    0x2000_0000,
-    0x3000_0000,
-    0x4000_0000,
-    0x0100_0000,
-];
-
 /// Blocks: its own, those after them, those of the disk that are both guests', and the last of all.
 const BLOCKS: &[u32] = &[
     0,
@@ -123,10 +94,7 @@ const BLOCKS: &[u32] = &[
     0xffff_ffff,
 ];
 
-/// NLB.
-const COUNTS: &[u32] = &[0, 0, 1, 1, 2, 7, 15, 16, 23, 63, 255, 256, 0xffff];
-
-/// Opcodes of admin commands, most often of those that make and delete queues, and CDW10 and CDW11 of these.
+/// Opcodes of admin commands, most often of those that make and delete queues, and CDW10 of these.
 const ADMIN_OPCODES: &[u32] = &[0, 1, 4, 5, 0, 1, 4, 5, 2, 6, 8, 9, 10, 12, 12, 0x7f, 0x4001];
 
 const QUEUES: &[u32] = &[
@@ -143,22 +111,7 @@ const QUEUES: &[u32] = &[
     2,
 ];
 
-const QUEUE_FLAGS: &[u32] = &[
-    1,
-    1,
-    1,
-    0x0001_0001,
-    0x0001_0001,
-    0x0002_0001,
-    0,
-    0x0009_0001,
-];
-
-/// Offsets of registers, and values.
-const OFFSETS: &[u32] = &[
-    0x00, 0x04, 0x08, 0x0c, 0x14, 0x1c, 0x24, 0x28, 0x2c, 0x30, 0x34, 0x38, 0x03, 0x1000,
-];
-
+/// Values of registers.
 const VALUES: &[u32] = &[
     0,
     1,
@@ -173,6 +126,18 @@ const VALUES: &[u32] = &[
     0x20_0000,
     0xffff_ffff,
 ];
+
+/// What it names.
+const WILD: Wild = Wild {
+    addresses: ADDRESSES,
+    low: LOW,
+    opcodes: OPCODES,
+    blocks: BLOCKS,
+    admin_opcodes: ADMIN_OPCODES,
+    queues: QUEUES,
+    values: VALUES,
+    kinds: 3,
+};
 
 /// Goes on somewhere.
 pub fn turn(runs: &mut Runs, random: &mut Random) {
@@ -196,20 +161,10 @@ pub fn turn(runs: &mut Runs, random: &mut Random) {
 
 // It stores 16 bytes that mean nothing, anywhere.
 fn store(runs: &mut Runs, random: &mut Random) {
-    let addr = somewhere(random);
+    let addr = WILD.somewhere(random);
     let low = u64::from(random.word()) << 32 | u64::from(random.word());
     let high = u64::from(random.word()) << 32 | u64::from(random.word());
     runs.store_row(HOSTILE, addr, low, high);
-}
-
-// An address near one of those that mean something.
-fn somewhere(random: &mut Random) -> u64 {
-    let near = random.address(ADDRESSES);
-    if random.once_in(2) {
-        near
-    } else {
-        near.wrapping_add(u64::from(random.below(0x1000)))
-    }
 }
 
 // It puts a command into a slot of its first queue, or of where another may be, and rings.
@@ -230,7 +185,7 @@ fn command(random: &mut Random) -> [u32; 16] {
     if random.once_in(2) {
         transfer(random)
     } else {
-        attempt(random)
+        WILD.command(random)
     }
 }
 
@@ -258,59 +213,23 @@ fn transfer(random: &mut Random) -> [u32; 16] {
     ]
 }
 
-// A command of anything.
-fn attempt(random: &mut Random) -> [u32; 16] {
-    let high = if random.once_in(16) { u32::MAX } else { 0 };
-    let fua = if random.once_in(4) { 1 << 30 } else { 0 };
-    let third = if random.once_in(2) { LENGTHS } else { LOW };
-    [
-        random.among(OPCODES) | random.word() & 0xffff_0000,
-        if random.once_in(16) {
-            random.below(4)
-        } else {
-            1
-        },
-        0,
-        0,
-        0,
-        0,
-        random.among(LOW) | random.among(&[0, 0, 0, 4, 2, 256]),
-        high,
-        random.among(third),
-        random.among(TYPES),
-        random.among(BLOCKS),
-        if random.once_in(8) { 4 } else { 0 },
-        random.among(COUNTS) | fua,
-        random.word(),
-        random.word(),
-        random.word(),
-    ]
-}
-
 // It stores a descriptor, a range or two addresses where its lists lie.
 fn list(runs: &mut Runs, random: &mut Random) {
-    let page = if random.once_in(2) { 0x6000 } else { 0x7000 };
-    let at = page + 16 * u64::from(random.below(8)) + 8 * u64::from(random.below(2));
-    let low = random.address(ADDRESSES);
-    let high = match random.below(3) {
-        0 => random.address(ADDRESSES),
-        1 => u64::from(random.among(BLOCKS)),
-        _ => u64::from(random.among(LENGTHS)) | u64::from(random.among(TYPES)) << 32,
-    };
+    let (at, low, high) = WILD.row(random);
     runs.store_row(HOSTILE, at, low, high);
 }
 
 fn load(runs: &mut Runs, random: &mut Random) {
-    let addr = somewhere(random);
-    runs.load(HOSTILE, addr, u64::from(random.among(LENGTHS) & 0x1fff));
+    let addr = WILD.somewhere(random);
+    runs.load(HOSTILE, addr, Wild::length(random) & 0x1fff);
 }
 
 fn registers(runs: &mut Runs, random: &mut Random) {
-    let offset = random.among(OFFSETS);
+    let offset = Wild::offset(random);
     if random.once_in(2) {
         runs.read(HOSTILE, offset);
     } else {
-        runs.write(HOSTILE, offset, random.among(VALUES));
+        runs.write(HOSTILE, offset, WILD.value(random));
     }
 }
 
@@ -326,28 +245,11 @@ fn ring(runs: &mut Runs, random: &mut Random) {
 
 // It puts an admin command into its queue, most often one of queues, and rings.
 fn administer(runs: &mut Runs, random: &mut Random) {
-    let number = random.below(32);
-    let entry = [
-        random.among(ADMIN_OPCODES) | number << 16,
-        random.below(2),
-        0,
-        0,
-        0,
-        0,
-        random.among(LOW),
-        0,
-        random.among(LOW),
-        0,
-        random.among(QUEUES),
-        random.among(QUEUE_FLAGS),
-        0,
-        0,
-        0,
-        0,
-    ];
+    let number = (random.below(32) & 0x1f) as u16;
+    let entry = WILD.admin_command(random, number);
     let addr = ADMIN_SUBMISSIONS.wrapping_add(64 * u64::from(number));
     runs.store(HOSTILE, addr, &bytes_of(&entry));
-    runs.ring(HOSTILE, ADMIN_TAIL, number.wrapping_add(1) % 32);
+    runs.ring(HOSTILE, ADMIN_TAIL, u32::from(number).wrapping_add(1) % 32);
     runs.play(Event::Admin(HOSTILE));
 }
 
@@ -379,12 +281,7 @@ fn disturb(runs: &mut Runs, random: &mut Random) {
 fn named(tag: Tag, random: &mut Random) -> Event {
     let Tag { lane, number } = tag;
     match random.below(10) {
-        0 | 1 => Event::List(
-            lane,
-            number,
-            somewhere(random),
-            u64::from(random.among(LENGTHS)),
-        ),
+        0 | 1 => Event::List(lane, number, WILD.somewhere(random), Wild::length(random)),
         2 => Event::Submit(lane, number),
         3 => Event::GiveUp(lane, number),
         4 => Event::DevMove(lane, number, u64::from(random.below(20))),
@@ -417,7 +314,7 @@ fn unnamed(runs: &mut Runs, random: &mut Random) {
     let event = match random.below(6) {
         0 => Event::DevTake(lane),
         1 => Event::Reap(lane),
-        2 => Event::Keep(u64::from(random.among(BLOCKS))),
+        2 => Event::Keep(WILD.block(random)),
         3 => Event::Take(2, 1, lane),
         4 => Event::Take(HOSTILE, 9, lane),
         _ => Event::Admin(2),

@@ -4,7 +4,7 @@ use crate::beside::bench::{
     self, HONEST, HONEST_IMAGE, HONEST_SPANS, HOSTILE, HOSTILE_IMAGES, HOSTILE_SPANS,
 };
 use crate::beside::tags::{Own, Tags};
-use nv_bringup::{BRING_UP, MEMORY, Span, act_of};
+use nv_bringup::{BRING_UP, MEMORY, Span, act_of, is_same_page, is_same_reply};
 use nv_mem::{BoxedBytes, Host, NoMemory, PAGE_SIZE};
 use nv_model::{Act, Reply};
 use nv_world::World;
@@ -202,7 +202,7 @@ fn is_answered(
 ) -> Result<bool, NoMemory> {
     alone.advance(alloc, event)?;
     match alone.log().last() {
-        Some(told) => Ok(is_same(reply, &told.reply)),
+        Some(told) => Ok(is_same_reply(reply, &told.reply)),
         None => Err(NoMemory),
     }
 }
@@ -233,38 +233,5 @@ fn is_same_block(one: &World, other: &World, block: u64) -> bool {
     match (one.block(block), other.block(block)) {
         (Some(one), Some(other)) => one == other,
         _ => false,
-    }
-}
-
-// Whether a page of the hosts' memory is the same.
-fn is_same_page(one: &Host, other: &Host, addr: u64) -> bool {
-    let mut bytes = [0; PAGE_SIZE as usize];
-    if !one.holds(addr, PAGE_SIZE) || !other.holds(addr, PAGE_SIZE) {
-        return false;
-    }
-    one.load(addr, &mut bytes);
-    other.equals(addr, &bytes)
-}
-
-// Whether two replies are the same.
-fn is_same(one: &Reply, other: &Reply) -> bool {
-    match (one, other) {
-        (Reply::Bytes(one), Reply::Bytes(other)) => one.as_slice() == other.as_slice(),
-        _ => kind(one) == kind(other),
-    }
-}
-
-// The kind of a reply, as a number.
-fn kind(reply: &Reply) -> u8 {
-    match reply {
-        Reply::Done => 1,
-        Reply::Bytes(_) => 2,
-        Reply::Idle => 3,
-        Reply::Busy => 4,
-        Reply::Held => 5,
-        Reply::Stale => 6,
-        Reply::Unmapped => 7,
-        Reply::Ignored => 8,
-        Reply::NoMemory => 9,
     }
 }

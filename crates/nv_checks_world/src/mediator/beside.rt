@@ -2,7 +2,7 @@
 
 use crate::mediator::calls::call;
 use crate::mediator::events::next;
-use nv_bringup::{BRING_UP, Random, Span, act_of, guest_at, setup_of};
+use nv_bringup::{BRING_UP, Random, Span, act_of, guest_at, is_same_page, is_same_reply, setup_of};
 use nv_mediator::{Mediator, Setup};
 use nv_mem::NoMemory;
 use nv_model::Reply;
@@ -70,29 +70,6 @@ fn opened(alloc: Global) -> Option<Both> {
     })
 }
 
-// A reply but for its bytes.
-fn kind_of(reply: &Reply) -> u8 {
-    match reply {
-        Reply::Done => 0,
-        Reply::Bytes(_) => 1,
-        Reply::Idle => 2,
-        Reply::Busy => 3,
-        Reply::Held => 4,
-        Reply::Stale => 5,
-        Reply::Unmapped => 6,
-        Reply::Ignored => 7,
-        Reply::NoMemory => 8,
-    }
-}
-
-// The bytes of a reply.
-fn bytes_of(reply: &Reply) -> &[u8] {
-    match reply {
-        Reply::Bytes(bytes) => bytes.as_slice(),
-        _ => &[],
-    }
-}
-
 // Whether an event is answered alike, by the mediator's own call or by its step, and due in both or in neither.
 fn is_alike(both: &mut Both, alloc: Global, event: Event, calls: bool, seen: &mut Seen) {
     let due = both.mediator.due(&event) == both.world.due(&event);
@@ -104,11 +81,8 @@ fn is_alike(both: &mut Both, alloc: Global, event: Event, calls: bool, seen: &mu
     };
     let told = told.unwrap_or(Reply::NoMemory);
     let logged = both.world.step(alloc, event);
-    seen.alike = seen.alike
-        && due
-        && kind_of(&told) == kind_of(&logged)
-        && bytes_of(&told) == bytes_of(&logged);
-    if posts && kind_of(&told) == 0 {
+    seen.alike = seen.alike && due && is_same_reply(&told, &logged);
+    if posts && matches!(told, Reply::Done) {
         seen.completed = seen.completed.wrapping_add(1);
     }
 }
@@ -136,24 +110,12 @@ fn runs(both: &mut Both, alloc: Global, seed: u64, seen: &mut Seen) -> Result<()
     Ok(())
 }
 
-// Whether a page of the host's memory is the same in both.
-fn is_same_page(both: &Both, addr: u64) -> bool {
-    let mut first = [0; PAGE_SIZE as usize];
-    let mut second = [0; PAGE_SIZE as usize];
-    let host = both.mediator.host();
-    let other = both.world.host();
-    if !host.holds(addr, PAGE_SIZE) || !other.holds(addr, PAGE_SIZE) {
-        return false;
-    }
-    host.load(addr, &mut first);
-    other.load(addr, &mut second);
-    first == second
-}
-
 // Whether all pages that are compared are the same.
 fn is_same_memory(both: &Both) -> bool {
+    let (one, other) = (both.mediator.host(), both.world.host());
     PAGES.iter().all(|(start, count)| (0..*count).all(|page| is_same_page(
-        both,
+        one,
+        other,
         start + PAGE_SIZE * page,
     )))
 }
