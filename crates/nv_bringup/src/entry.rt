@@ -5,6 +5,16 @@ ghost use Rattle.nv_entry.specs.Layout.{bytes_of_dwords};
 
 use byteorder::{ByteOrder, LittleEndian};
 
+/// The dwords of the entry of an I/O command: its dword 0, the data pointer, and CDW10 to CDW12; the namespace is 1.
+#[macro_export]
+macro_rules! io_entry {
+    ($head:expr, [$first:expr, $second:expr, $third:expr, $fourth:expr], [$cdw10:expr, $cdw11:expr, $cdw12:expr]) => {
+        [
+            $head, 1, 0, 0, 0, 0, $first, $second, $third, $fourth, $cdw10, $cdw11, $cdw12, 0, 0, 0,
+        ]
+    };
+}
+
 /// What the entry of an I/O command says, but for its identifier; the namespace is 1.
 #[derive(Clone, Copy)]
 pub struct Fields {
@@ -26,9 +36,7 @@ impl Fields {
         let [first, second, third, fourth] = self.data;
         let [cdw10, cdw11, cdw12] = self.dwords;
         let head = self.opcode | u32::from(identifier) << 16;
-        [
-            head, 1, 0, 0, 0, 0, first, second, third, fourth, cdw10, cdw11, cdw12, 0, 0, 0,
-        ]
+        io_entry!(head, [first, second, third, fourth], [cdw10, cdw11, cdw12])
     }
 }
 

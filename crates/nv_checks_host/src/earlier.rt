@@ -6,7 +6,7 @@ use crate::desk::Form;
 use crate::guests::Guest;
 use crate::pair::Pair;
 use crate::two_guests::{BLOCKS, FIRST_BLOCK, opened, setup};
-use nv_bringup::{CC, DISABLED, Random};
+use nv_bringup::{CC, DISABLED, Random, io_entry};
 use nv_model::limits::RING_SLOTS;
 use nv_model::{Act, Reply};
 use nv_world_model::Event;
@@ -16,43 +16,9 @@ use std::process::Abort;
 const COMMANDS: u16 = 2 * RING_SLOTS;
 
 /// A Write of block 5 from 3000h, and a Read of it to 4000h.
-const WRITE: [u32; 16] = [
-    0x0009_0001,
-    1,
-    0,
-    0,
-    0,
-    0,
-    0x3000,
-    0,
-    0,
-    0,
-    5,
-    0,
-    0,
-    0,
-    0,
-    0,
-];
+const WRITE: [u32; 16] = io_entry!(0x0009_0001, [0x3000, 0, 0, 0], [5, 0, 0]);
 
-const READ: [u32; 16] = [
-    0x000a_0002,
-    1,
-    0,
-    0,
-    0,
-    0,
-    0x4000,
-    0,
-    0,
-    0,
-    5,
-    0,
-    0,
-    0,
-    0,
-    0,
-];
+const READ: [u32; 16] = io_entry!(0x000a_0002, [0x4000, 0, 0, 0], [5, 0, 0]);
 
 /// What the first 16 bytes of the block are.
 const DATA: (u64, u64) = (0x0123_4567_89ab_cdef, 0xfeed_f00d);

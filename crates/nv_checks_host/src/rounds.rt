@@ -1,7 +1,7 @@
 //! Commands from a guest's queue to the drive and back.
 
 use crate::bench::Bench;
-use nv_bringup::{COMPLETIONS, SUBMISSIONS, TAIL, bytes_of};
+use nv_bringup::{COMPLETIONS, SUBMISSIONS, TAIL, bytes_of, io_entry};
 use nv_entry::Cqe;
 use nv_host::Stray;
 use nv_model::{Act, Reply};
@@ -9,27 +9,10 @@ use nv_world_model::Event;
 use std::process::Abort;
 
 /// A Read of 24 blocks to three pages: the first is named by the entry, and the others by a list of 16 bytes.
-pub const READ: [u32; 16] = [
-    0x0007_0002,
-    1,
-    0,
-    0,
-    0,
-    0,
-    0x6000,
-    0,
-    0x5000,
-    0,
-    0,
-    0,
-    23,
-    0,
-    0,
-    0,
-];
+pub const READ: [u32; 16] = io_entry!(0x0007_0002, [0x6000, 0, 0x5000, 0], [0, 0, 23]);
 
 /// A Flush.
-pub const FLUSH: [u32; 16] = [0x0008_0000, 1, 0, 0, 0, 0, 0, 0, 0, 0, 0, 0, 0, 0, 0, 0];
+pub const FLUSH: [u32; 16] = io_entry!(0x0008_0000, [0, 0, 0, 0], [0, 0, 0]);
 
 /// The list of the Read: the pages at 7000h and 8000h.
 const LIST: [u8; 16] = [0, 0x70, 0, 0, 0, 0, 0, 0, 0, 0x80, 0, 0, 0, 0, 0, 0];

@@ -4,6 +4,7 @@ use crate::acting::{Seat, awaits};
 use crate::bench::opened;
 use crate::preparing::{brings_up, rings, stores_entry};
 use crate::running::{others, workers};
+use nv_bringup::io_entry;
 use nv_model::Reply;
 use nv_threads::{Open, Port, Shared};
 use nv_world::World;
@@ -16,24 +17,7 @@ use std::thread::{Threads, join};
 use std::time::Clock;
 
 /// A Read of four blocks from block 5 into 3000h by one Data Block, as command 7. It is given twice.
-const READ_FOUR: [u32; 16] = [
-    0x0007_4002,
-    1,
-    0,
-    0,
-    0,
-    0,
-    0x3000,
-    0,
-    2048,
-    0,
-    5,
-    0,
-    3,
-    0,
-    0,
-    0,
-];
+const READ_FOUR: [u32; 16] = io_entry!(0x0007_4002, [0x3000, 0, 2048, 0], [5, 0, 3]);
 
 /// A heap with room for a plan.
 const HEAP: u64 = 65_536;

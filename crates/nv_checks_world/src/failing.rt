@@ -2,7 +2,7 @@
 //! first. A bounced Read is shown where all parts succeeded, and not at all where one failed.
 
 use crate::bench::Bench;
-use nv_bringup::{SLOTS, Span, bytes_of};
+use nv_bringup::{SLOTS, Span, bytes_of, io_entry};
 use nv_entry::{Sqe, Status};
 use nv_world_model::Event;
 use std::process::Abort;
@@ -37,11 +37,11 @@ const DESTINATION: u64 = 0x3002;
 const BEFORE: [u8; LEN] = [0xee; LEN];
 
 /// Blocks 1 to 3 in a Write, a Read that is bounced, and a Compare, but for the identifier.
-pub const WRITE: [u32; 16] = [0x4001, 1, 0, 0, 0, 0, 0xa000, 0, 1536, 0, 1, 0, 2, 0, 0, 0];
+pub const WRITE: [u32; 16] = io_entry!(0x4001, [0xa000, 0, 1536, 0], [1, 0, 2]);
 
-pub const READ: [u32; 16] = [0x4002, 1, 0, 0, 0, 0, 0x3002, 0, 1536, 0, 1, 0, 2, 0, 0, 0];
+pub const READ: [u32; 16] = io_entry!(0x4002, [0x3002, 0, 1536, 0], [1, 0, 2]);
 
-const COMPARE: [u32; 16] = [0x4005, 1, 0, 0, 0, 0, 0xa000, 0, 1536, 0, 1, 0, 2, 0, 0, 0];
+const COMPARE: [u32; 16] = io_entry!(0x4005, [0xa000, 0, 1536, 0], [1, 0, 2]);
 
 /// Each command once with its parts in order and once from the last to the first.
 const COMMANDS: &[[u32; 16]] = &[WRITE, WRITE, READ, READ, COMPARE, COMPARE];

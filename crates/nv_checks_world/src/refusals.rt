@@ -2,8 +2,8 @@
 //! test is refused; the log has to be the same whichever it is, or none.
 
 use crate::bench::{self, WHOLE, completion_at};
-use nv_bringup::{CREATE_COMPLETION_QUEUE, CREATE_SUBMISSION_QUEUE, LIMIT, bytes_of};
-use nv_mem::{BoxedBytes, NoMemory};
+use nv_bringup::{BRING_UP, Deed as GuestDeed, LIMIT, act_of, io_entry};
+use nv_mem::NoMemory;
 use nv_model::{Act, Reply};
 use nv_plan::{Plan, Planned, make_plan};
 use nv_world::World;
@@ -14,12 +14,10 @@ use std::process::Abort;
 /// What is done: events of the first guest, lane, tag and slot.
 #[derive(Clone, Copy)]
 enum Deed {
-    /// The entry with these dwords is stored.
-    Entry(u64, [u32; 16]),
+    /// The guest acts.
+    Guest(GuestDeed),
     /// So many bytes are loaded.
     Load(u64, u64),
-    Register(u32, u32),
-    Doorbell(u32, u32),
     Admin,
     Take,
     List(u64, u64),
@@ -31,41 +29,20 @@ enum Deed {
 }
 
 /// A Read of one block by a Last Segment at 6000h, whose one descriptor is stored with what comes after it.
-const READ: [u32; 16] = [
-    0x0007_4002,
-    1,
-    0,
-    0,
-    0,
-    0,
-    0x6000,
-    0,
-    16,
-    0x3000_0000,
-    5,
-    0,
-    0,
-    0,
-    0,
-    0,
-];
+const READ: [u32; 16] = io_entry!(0x0007_4002, [0x6000, 0, 16, 0x3000_0000], [5, 0, 0]);
 
 const DESCRIPTOR: [u32; 16] = [0x3002, 0, 512, 0, 0, 0, 0, 0, 0, 0, 0, 0, 0, 0, 0, 0];
 
-/// The guest is brought up, its command is taken and its list is read: 16 events, so that the log has no room left for the next.
+/// How many events there are before the plan, so that the log has no room left for the next.
+const PREPARED: usize = 16;
+
+/// After the guest's bring-up both admin commands are answered, and its command is taken and its list read.
 const BEFORE: &[Deed] = &[
-    Deed::Entry(0x1_0000, CREATE_COMPLETION_QUEUE),
-    Deed::Entry(0x1_0040, CREATE_SUBMISSION_QUEUE),
-    Deed::Register(0x24, 0x001f_001f),
-    Deed::Register(0x28, 0x1_0000),
-    Deed::Register(0x30, 0x1_1000),
-    Deed::Register(0x14, 0x0046_0001),
-    Deed::Doorbell(0x1000, 2),
     Deed::Admin,
     Deed::Admin,
-    Deed::Entry(0x6000, DESCRIPTOR),
-    Deed::Entry(0x1_3000, READ),
-    Deed::Doorbell(0x1008, 1),
+    Deed::Guest(GuestDeed::Entry(0x6000, DESCRIPTOR)),
+    Deed::Guest(GuestDeed::Entry(0x1_3000, READ)),
+    Deed::Guest(GuestDeed::Doorbell(0x1008, 1)),
     Deed::Take,
     Deed::List(0x6000, 16),
     Deed::Load(0x6000, 4),
@@ -85,13 +62,8 @@ const BEHIND: &[Deed] = &[
 // A deed as an event.
 fn event_of(alloc: Global, deed: &Deed) -> Result<Event, NoMemory> {
     Ok(match *deed {
-        Deed::Entry(addr, dwords) => {
-            let bytes = BoxedBytes::from_slice(alloc, &bytes_of(&dwords))?;
-            Event::Guest(0, Act::Store { addr, bytes })
-        }
+        Deed::Guest(deed) => Event::Guest(0, act_of(alloc, &deed)?),
         Deed::Load(addr, len) => Event::Guest(0, Act::Load { addr, len }),
-        Deed::Register(offset, value) => Event::Guest(0, Act::RegWrite { offset, value }),
-        Deed::Doorbell(offset, value) => Event::Guest(0, Act::Doorbell { offset, value }),
         Deed::Admin => Event::Admin(0),
         Deed::Take => Event::Take(0, 1, 0),
         Deed::List(addr, len) => Event::List(0, 0, addr, len),
@@ -123,17 +95,31 @@ fn is_done(reply: &Reply) -> Option<bool> {
     }
 }
 
-// Ends the test where these are not done, at the second time at the latest; nothing is in the log of the first.
+// Ends the test where this is not done, at the second time at the latest; nothing is in the log of the first.
+fn expect_one_done(rt: &impl Abort, alloc: Global, world: &mut World, deed: &Deed, runs: bool) {
+    let before = world.log().len();
+    let mut done = does(world, alloc, deed, runs);
+    if done.is_none() {
+        assert!(rt; world.log().len() == before);
+        done = does(world, alloc, deed, runs);
+    }
+    assert!(rt; done == Some(true) && world.log().len() == before + 1);
+}
+
+// The same of each of these.
 fn expect_done(rt: &impl Abort, alloc: Global, world: &mut World, deeds: &[Deed], runs: bool) {
     for deed in deeds {
-        let before = world.log().len();
-        let mut done = does(world, alloc, deed, runs);
-        if done.is_none() {
-            assert!(rt; world.log().len() == before);
-            done = does(world, alloc, deed, runs);
-        }
-        assert!(rt; done == Some(true) && world.log().len() == before + 1);
+        expect_one_done(rt, alloc, world, deed, runs);
     }
+}
+
+// The same of all that comes before the plan.
+fn expect_prepared(rt: &impl Abort, alloc: Global, world: &mut World, runs: bool) {
+    for deed in BRING_UP {
+        expect_one_done(rt, alloc, world, &Deed::Guest(*deed), runs);
+    }
+    expect_done(rt, alloc, world, BEFORE, runs);
+    assert_eq!(rt; world.log().len(), PREPARED);
 }
 
 // What is planned of the command of tag 0; none where there was no memory, or there is no such command.
@@ -171,7 +157,7 @@ fn expect_command(rt: &impl Abort, alloc: Global, runs: bool) {
         world = bench::opened(alloc, 1, &[WHOLE]);
     }
     let mut world = world.expect(rt, "a world");
-    expect_done(rt, alloc, &mut world, BEFORE, runs);
+    expect_prepared(rt, alloc, &mut world, runs);
     expect_submitted(rt, alloc, &mut world);
     expect_done(rt, alloc, &mut world, BEHIND, runs);
     expect_log(rt, world.log());
@@ -185,8 +171,8 @@ fn expect_command(rt: &impl Abort, alloc: Global, runs: bool) {
 
 // Ends the test where the log has another number of events, or another in the place of the plan.
 fn expect_log(rt: &impl Abort, log: &[Logged]) {
-    assert_eq!(rt; log.len(), BEFORE.len() + 1 + BEHIND.len());
-    let submitted = log.get(BEFORE.len()).expect(rt, "the plan");
+    assert_eq!(rt; log.len(), PREPARED + 1 + BEHIND.len());
+    let submitted = log.get(PREPARED).expect(rt, "the plan");
     assert!(rt; matches!(submitted.event, Event::Submit(0, 0)));
     assert!(rt; matches!(submitted.reply, Reply::Done));
 }
@@ -220,7 +206,7 @@ fn expect_stale(rt: &impl Abort, world: &mut World, plan: Plan) {
 fn a_plan_of_fewer_reads_is_stale(rt: HostRuntime) {
     let alloc = rt.alloc();
     let mut world = bench::opened(alloc, 1, &[WHOLE]).expect(&rt, "a world");
-    expect_done(&rt, alloc, &mut world, BEFORE, false);
+    expect_prepared(&rt, alloc, &mut world, false);
     let earlier = plan_of(&world, alloc).expect(&rt, "a plan");
     let again = [Deed::List(0x6000, 16)];
     expect_done(&rt, alloc, &mut world, &again, false);

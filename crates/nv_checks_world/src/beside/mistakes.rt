@@ -3,7 +3,7 @@
 use crate::beside::bench::{HONEST, behind, entry_at};
 use crate::beside::honest::{Honest, ROUND};
 use crate::beside::runs::{Runs, Trial, attempt};
-use nv_bringup::{CC, CSTS, DISABLED, TAIL, bytes_of};
+use nv_bringup::{CC, CSTS, DISABLED, TAIL, bytes_of, io_entry};
 use nv_mem::BoxedBytes;
 use nv_model::Act;
 use nv_world_model::Event;
@@ -47,24 +47,7 @@ fn expect_register_found(rt: &impl Abort, runs: &mut Runs) {
 }
 
 /// A Write of a block from a000h, where 512 bytes are 21h.
-const WRITE: [u32; 16] = [
-    0x0007_4001,
-    1,
-    0,
-    0,
-    0,
-    0,
-    0xa000,
-    0,
-    512,
-    0,
-    7,
-    0,
-    0,
-    0,
-    0,
-    0,
-];
+const WRITE: [u32; 16] = io_entry!(0x0007_4001, [0xa000, 0, 512, 0], [7, 0, 0]);
 
 // Stores a byte at a000h in the run of both guests, and in no other.
 fn store_once(rt: &impl Abort, runs: &mut Runs, byte: u8) {

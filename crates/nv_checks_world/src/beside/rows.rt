@@ -4,24 +4,20 @@ use crate::beside::bench::{HONEST, HOSTILE};
 use crate::beside::deeds::{Beside, Deed, Row, Told, play};
 use crate::beside::honest::{Honest, ROUND};
 use crate::beside::runs::{Runs, Trial, attempt};
-use nv_bringup::{CSTS, DISABLED, ENABLED, HEAD, TAIL};
+use nv_bringup::{CSTS, DISABLED, ENABLED, HEAD, TAIL, io_entry};
 use std::process::Abort;
 
 /// A Read of one block, of identifier 7 and SLBA 5, by one Data Block at this address.
 macro_rules! read {
     ($addr:expr) => {
-        [
-            0x0007_4002, 1, 0, 0, 0, 0, $addr, 0, 512, 0, 5, 0, 0, 0, 0, 0,
-        ]
+        io_entry!(0x0007_4002, [$addr, 0, 512, 0], [5, 0, 0])
     };
 }
 
 /// A Read of two blocks by a list at 6000h of so many bytes and that type.
 macro_rules! read_by_list {
     ($len:expr, $kind:expr) => {
-        [
-            0x0007_4002, 1, 0, 0, 0, 0, 0x6000, 0, $len, $kind, 5, 0, 1, 0, 0, 0,
-        ]
+        io_entry!(0x0007_4002, [0x6000, 0, $len, $kind], [5, 0, 1])
     };
 }
 
@@ -104,24 +100,7 @@ const ONE_PAGE_TWICE: &[Row] = &[
     (
         Deed::Enter(
             0,
-            [
-                0x0006_0001,
-                1,
-                0,
-                0,
-                0,
-                0,
-                0xa000,
-                0,
-                0xb000,
-                0,
-                0,
-                0,
-                15,
-                0,
-                0,
-                0,
-            ],
+            io_entry!(0x0006_0001, [0xa000, 0, 0xb000, 0], [0, 0, 15]),
         ),
         Told::Done,
     ),
@@ -132,24 +111,7 @@ const ONE_PAGE_TWICE: &[Row] = &[
     (
         Deed::Enter(
             1,
-            [
-                0x0007_0002,
-                1,
-                0,
-                0,
-                0,
-                0,
-                0x3000,
-                0,
-                0x3000,
-                0,
-                0,
-                0,
-                15,
-                0,
-                0,
-                0,
-            ],
+            io_entry!(0x0007_0002, [0x3000, 0, 0x3000, 0], [0, 0, 15]),
         ),
         Told::Done,
     ),
@@ -193,27 +155,7 @@ const ONE_PLACE_TWICE: &[Row] = &[
     (Deed::Fill(0xa000, 0x31), Told::Done),
     (Deed::Fill(0xa200, 0x32), Told::Done),
     (
-        Deed::Enter(
-            0,
-            [
-                0x0006_4001,
-                1,
-                0,
-                0,
-                0,
-                0,
-                0xa000,
-                0,
-                1024,
-                0,
-                5,
-                0,
-                1,
-                0,
-                0,
-                0,
-            ],
-        ),
+        Deed::Enter(0, io_entry!(0x0006_4001, [0xa000, 0, 1024, 0], [5, 0, 1])),
         Told::Done,
     ),
     (Deed::Ring(TAIL, 1), Told::Done),

@@ -1,6 +1,6 @@
 //! Pseudorandom events, the same for each seed, of a guest that was brought up before.
 
-use nv_bringup::{HEAD, Random, SUBMISSIONS, TAIL, bytes_of};
+use nv_bringup::{HEAD, Random, SUBMISSIONS, TAIL, bytes_of, io_entry};
 use nv_entry::{Status, StatusCode};
 use nv_mem::{BoxedBytes, NoMemory};
 use nv_model::Act;
@@ -9,61 +9,10 @@ use std::alloc::Global;
 
 /// A Write and a Read of two blocks on both sides of the join of the guest's extents, a Read by a list of one descriptor at 6000h, and a Flush.
 const ENTRIES: [[u32; 16]; 4] = [
-    [
-        0x0007_0001,
-        1,
-        0,
-        0,
-        0,
-        0,
-        0x3000,
-        0,
-        0,
-        0,
-        31,
-        0,
-        1,
-        0,
-        0,
-        0,
-    ],
-    [
-        0x0008_0002,
-        1,
-        0,
-        0,
-        0,
-        0,
-        0x5000,
-        0,
-        0,
-        0,
-        31,
-        0,
-        1,
-        0,
-        0,
-        0,
-    ],
-    [
-        0x0009_4002,
-        1,
-        0,
-        0,
-        0,
-        0,
-        0x6000,
-        0,
-        16,
-        0x3000_0000,
-        5,
-        0,
-        0,
-        0,
-        0,
-        0,
-    ],
-    [0x000a_0000, 1, 0, 0, 0, 0, 0, 0, 0, 0, 0, 0, 0, 0, 0, 0],
+    io_entry!(0x0007_0001, [0x3000, 0, 0, 0], [31, 0, 1]),
+    io_entry!(0x0008_0002, [0x5000, 0, 0, 0], [31, 0, 1]),
+    io_entry!(0x0009_4002, [0x6000, 0, 16, 0x3000_0000], [5, 0, 0]),
+    io_entry!(0x000a_0000, [0, 0, 0, 0], [0, 0, 0]),
 ];
 
 // The event by which the guest stores bytes.
