@@ -2,8 +2,9 @@
 use Rattle.std.proofs.Common.{◌≡◌, ◌∙◌, sym, ap, subst, ℕ, List, slice_get, Option, Some, is_some, true, refl}
 use Rattle.std.specs.Option.{option_map}
 use Rattle.nv_c.proofs.ListJobs.{list-job}
-use Rattle.nv_c.proofs.Rests.{own-job}
 use Rattle.nv_c.proofs.Works.{leads_one}
+use Rattle.nv_host.proofs.Readings.{some-is}
+use Rattle.nv_host.proofs.Rests.{own-job}
 use Rattle.nv_c.specs.Work.{IsIn, IsReading, IsWaiting, IsWork, Leads, MayGiveUp, Rests}
 use Rattle.nv_c.specs.declared.working.Scope.{Scope}
 use Rattle.nv_c.specs.declared.working.Scope.TheVariants as scope
@@ -76,9 +77,6 @@ waiting-works s h job given waiting rests = by_outcome (outcome_of given job) re
     by_outcome : (o : Outcome Plan) → outcome_of given job ≡ o → ⊥
     by_outcome (Wanted addr len) e = rests (event.List job.lane job.tag addr len) (waiting-list s h job given addr len waiting e)
     by_outcome (Settled plan) e = rests (event.Submit job.lane job.tag) (waiting-submit s h job given plan waiting e)
-
-pub some-is : {A : Type 0} (o : Option A) (x : A) → o ≡ Some x → is_some o ≡ true
-some-is o x e = ap is_some e
 
 pub waiting-may : (s : Scope) (h : Hosted) (job : Job) (given : Guest) → IsWaiting s h job given → MayGiveUp s h job.lane job.tag
 waiting-may s h job given waiting =

@@ -5,12 +5,13 @@ use Rattle.std.proofs.lemmas.Bool.{cases_lt}
 use Rattle.std.proofs.lemmas.Bool.Decides.{nat_tests}
 use Rattle.std.proofs.lemmas.Option.{none-some, slice_get_past}
 use Rattle.std.specs.Option.{option_map}
-use Rattle.nv_c.proofs.Works.{admin-no_guest, dev_move-no_slot, dev_post-no_slot, dev_take-no_lane, post-no_tag, reap-no_lane, take-no_guest, take-no_lane, true-false}
+use Rattle.nv_c.proofs.Works.{dev_move-no_slot, dev_post-no_slot, dev_take-no_lane, reap-no_lane}
 use Rattle.nv_c.specs.Work.{IsChoice, IsIn, IsNext, IsWaitingAt, NonePosts, NoneTakes, NoneWaits, PartyRests, Rests, SlotRests, guest_served}
 use Rattle.nv_c.specs.declared.working.Choice.{Choice}
 use Rattle.nv_c.specs.declared.working.Choice.TheVariants as choice
 use Rattle.nv_c.specs.declared.working.Scope.{Scope}
 use Rattle.nv_c.specs.declared.working.Scope.TheVariants as scope
+use Rattle.nv_host.proofs.Rests.{admin-no_guest, own-job, post-no_tag, refused-not, take-no_guest, take-no_lane, true-false}
 use Rattle.nv_core.specs.Jobs.{holder_in, holder_of, job_in, job_of, job_with}
 use Rattle.nv_core.specs.Submit.{IsOfTag}
 use Rattle.nv_core.specs.declared.holding.Holder.{Holder}
@@ -32,33 +33,6 @@ use Rattle.nv_world_model.specs.declared.event.Event.{Event}
 use Rattle.nv_world_model.specs.declared.event.Event.TheVariants as event
 
 -- ---- a job
-
--- a tag that a job is told of is the guest's, and its command goes by it
-pub record IsOwnJob (lane tag : ℕ) (t : Option Tag) (job : Job) : Type 0 where
-  pub holder : holder_in t ≡ Some (record { guest = job.guest; leader = tag })
-  pub current : IsOfTag t job
-  pub on : job.lane ≡ lane
-  pub under : job.tag ≡ tag
-
-pub own-job : (lane tag : ℕ) (t : Option Tag) (job : Job) → job_in lane tag t ≡ Some job → IsOwnJob lane tag t job
-own-job lane tag None job is = absurd (none-some job is)
-own-job lane tag (Some Free) job is = absurd (none-some job is)
-own-job lane tag (Some (Taken command reads)) job is = by_leader (command.leader == tag) refl is
-  where
-    by_leader : (b : Bool) → command.leader == tag ≡ b → cond b (Some (job_with lane tag command reads)) None ≡ Some job
-        → IsOwnJob lane tag (Some (Taken command reads)) job
-    by_leader false e is = absurd (none-some job is)
-    by_leader true e is =
-        (let leads : command.leader ≡ tag = eqb-true command.leader tag e in
-        subst (λ (j : Job). IsOwnJob lane tag (Some (Taken command reads)) j) (some-same (job_with lane tag command reads) job is)
-        (record {
-          holder = ap (λ (n : ℕ). let h : Holder = record { guest = command.guest; leader = n } in Some h) leads;
-          current = (leads, record { on = refl; under = refl; whose = refl; entry = refl; read = refl });
-          on = refl;
-          under = refl;
-        }))
-own-job lane tag (Some (Flying command share at)) job is = absurd (none-some job is)
-own-job lane tag (Some (Ended command st share)) job is = absurd (none-some job is)
 
 pub some-job : (o : Option Job) → is_some o ≡ true → (job : Job) × (o ≡ Some job)
 some-job None is = absurd (true-false false is refl)
@@ -336,10 +310,6 @@ module _ (h : Hosted) (is : IsConsistent h.geometry (hosted_world h)) (few_guest
 
   pub all-rests : Rests scope.All h
   all-rests = λ e work. all_event e work.next
-
-refused-not : (b : Bool) (r : Refusal) (rest : Option Refusal) → cond b (Some r) rest ≡ None → b ≡ false
-refused-not true r rest e = absurd (none-some r (sym e))
-refused-not false r rest e = refl
 
 few-guests : (s : SetUp) → refusal_of s ≡ None → length s.geometry.guests ≤ 16
 unfolding refusal_of

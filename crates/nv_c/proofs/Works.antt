@@ -6,6 +6,7 @@ use Rattle.nv_c.specs.Work.{AreMade, HasEnough, IsStarved, IsTurn, IsWork, Leads
 use Rattle.nv_c.specs.declared.working.Scope.{Scope}
 use Rattle.nv_c.specs.declared.working.Turn.{Turn}
 use Rattle.nv_c.specs.declared.working.Turn.TheVariants as turn
+use Rattle.nv_host.proofs.Rests.{due-not}
 use Rattle.nv_mediator.specs.Hosted.{Hosted, IsMade}
 use Rattle.nv_model.specs.Controller.{front}
 use Rattle.nv_model.specs.declared.reply.Reply.{Reply}
@@ -54,14 +55,6 @@ leads_zero s a b leads = nowhere leads.events leads.made leads.counted
     nowhere : (es : List Event) → AreMade s es a b → length es ≡ 0 → b ≡ a
     nowhere [] made none = made
     nowhere (e ∷ es) made none = absurd (omega (arith, none))
-
-picked : Bool → Option ℕ
-picked true = Some 0
-picked false = None
-
-pub true-false : (b : Bool) → b ≡ true → b ≡ false → ⊥
-unfolding picked
-true-false b is isnt = none-some 0 (ap picked (sym isnt ∙ is))
 
 -- ---- how a call ends
 
@@ -130,51 +123,7 @@ turn_after (suc n) turn.Starved s most a b c first below made =
 
 -- ---- what is due nowhere
 
-and-false : (b : Bool) → b && false ≡ false
-and-false true = refl
-and-false false = refl
-
-due-not : (geometry : Geometry) (e : Event) (w : World) (a : After) → step geometry e w ≡ a → is_done a.reply ≡ false → due geometry e w ≡ false
-unfolding due
-due-not geometry e w a is undone =
-    ap (λ (x : After). is_due_kind e && is_done x.reply) is ∙ ap (λ (b : Bool). is_due_kind e && b) undone ∙ and-false (is_due_kind e)
-
 module _ (geometry : Geometry) (w : World) where
-  -- an admin command of no guest
-  pub admin-no_guest : (guest : ℕ) → owner_of geometry w guest ≡ None → due geometry (event.Admin guest) w ≡ false
-  unfolding step
-  admin-no_guest guest none =
-      due-not geometry (event.Admin guest) w (replied reply.Ignored w)
-      (ap (λ (o : Option Owner). for_one o w (λ owner. administered_in owner w)) none) refl
-
-  -- a command of no guest taken, or one on no lane, or from no I/O queue
-  pub take-no_guest : (guest queue lane : ℕ) → owner_of geometry w guest ≡ None → due geometry (event.Take guest queue lane) w ≡ false
-  unfolding step
-  take-no_guest guest queue lane none =
-      due-not geometry (event.Take guest queue lane) w (replied reply.Ignored w)
-      (ap (λ (o : Option Owner). for_one o w (λ owner. for_one (slice_get w.lanes lane) w (λ l. take_from queue lane l owner w))) none) refl
-
-  pub take-no_lane : (guest queue lane : ℕ) → slice_get w.lanes lane ≡ None → due geometry (event.Take guest queue lane) w ≡ false
-  unfolding due step
-  take-no_lane guest queue lane none = by_owner (owner_of geometry w guest)
-    where
-      by_owner : (x : Option Owner) → is_done (for_one x w (λ o. for_one (slice_get w.lanes lane) w (λ l. take_from queue lane l o w))).reply ≡ false
-      by_owner None = refl
-      by_owner (Some o) = ap (λ (y : Option Lane). is_done (for_one y w (λ l. take_from queue lane l o w)).reply) none
-
-  pub take-no_queue : (guest queue lane : ℕ) → is_io_queue queue ≡ false → due geometry (event.Take guest queue lane) w ≡ false
-  unfolding due step
-  take-no_queue guest queue lane none = by_owner (owner_of geometry w guest)
-    where
-      by_lane : (o : Owner) (y : Option Lane) → is_done (for_one y w (λ l. take_from queue lane l o w)).reply ≡ false
-      by_lane o None = refl
-      by_lane o (Some l) =
-          ap (λ (b : Bool). is_done (cond b (take_front (front o.controller queue) queue lane l o w) (replied reply.Ignored w)).reply) none
-
-      by_owner : (x : Option Owner) → is_done (for_one x w (λ o. for_one (slice_get w.lanes lane) w (λ l. take_from queue lane l o w))).reply ≡ false
-      by_owner None = refl
-      by_owner (Some o) = by_lane o (slice_get w.lanes lane)
-
   -- what the physical controller would do on no lane, or in no slot
   pub dev_take-no_lane : (lane : ℕ) → slice_get w.device lane ≡ None → due geometry (event.DevTake lane) w ≡ false
   unfolding step
@@ -207,17 +156,9 @@ module _ (geometry : Geometry) (w : World) where
       by_lane (Some d) is =
           ap (λ x. is_done (for_held x w (λ h. device_post h.left geometry.mediator lane slot h d w)).reply) (none d is)
 
-  -- completions on no lane, or of no tag
+  -- completions on no lane
   pub reap-no_lane : (lane : ℕ) → slice_get w.lanes lane ≡ None → due geometry (event.Reap lane) w ≡ false
   unfolding step
   reap-no_lane lane none =
       due-not geometry (event.Reap lane) w (replied reply.Ignored w)
       (ap (λ (o : Option Lane). for_one o w (λ l. for_one (slice_get w.device lane) w (λ d. reap geometry lane l d w))) none) refl
-
-  pub post-no_tag : (lane tag : ℕ) → tag_of w lane tag ≡ None → due geometry (event.Post lane tag) w ≡ false
-  unfolding step
-  post-no_tag lane tag none =
-      due-not geometry (event.Post lane tag) w (replied reply.Ignored w)
-      (ap (λ (o : Option Tag). for_ended tag o w (λ command.
-      for_owner (owner_of geometry w command.guest) w (λ o.
-      post_all (statuses_of lane (group w lane tag) w) command geometry.mediator lane (group w lane tag) o w))) none) refl

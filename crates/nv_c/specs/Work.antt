@@ -23,6 +23,7 @@ use Rattle.nv_plan.specs.declared.job.Job.{Job}
 use Rattle.nv_world_model.specs.Due.{due}
 use Rattle.nv_world_model.specs.Geometry.{Guest}
 use Rattle.nv_world_model.specs.Plan.{Plan}
+use Rattle.nv_world_model.specs.SetUp.{most_guests}
 use Rattle.nv_world_model.specs.World.{World}
 use Rattle.nv_world_model.specs.declared.event.Event.{Event}
 use Rattle.nv_world_model.specs.declared.event.Event.TheVariants as event
@@ -233,7 +234,7 @@ pub record SlotRests (lane : ℕ) (h : Hosted) (slot : ℕ) : Type 0 where
   pub moves : (number : ℕ) → due h.geometry (event.DevMove lane slot number) (hosted_world h) ≡ false
   pub posts : due h.geometry (event.DevPost lane slot) (hosted_world h) ≡ false
 
--- nothing is left of the guest or the lane of that number, in a row of 16 guests and then the lanes
+-- nothing is left of the guest or the lane of that number, in a row of as many guests as there may be, and then the lanes
 pub record PartyRests (h : Hosted) (number : ℕ) : Type 0 where
-  pub guest : number < 16 → Rests (scope.Guest number) h
-  pub lane : 16 ≤ number → Rests (scope.Lane (number - 16)) h
+  pub guest : number < most_guests → Rests (scope.Guest number) h
+  pub lane : most_guests ≤ number → Rests (scope.Lane (number - most_guests)) h

@@ -100,7 +100,8 @@ pub(crate) fn read_lists(
     }
 }
 
-/// Reads on for the command of a tag whose plan was put aside, where that is still the plan of the tag's job; else its lists are gone through again.
+/// Reads on for the command of a tag whose plan was put aside, where that is still the plan of the tag's job; else its lists are gone through from their
+/// beginning.
 #[inline(never)]
 pub(crate) fn resume_lists(
     alloc: Global,
@@ -118,7 +119,11 @@ pub(crate) fn resume_lists(
 {
     match taken(mediator, kept, lane, tag) {
         Some(aside) => go_on(alloc, mediator, kept, scope, last, aside, most),
-        None => start_again(alloc, mediator, kept, scope, last, lane, tag, most),
+        None => match mediator.job(alloc, lane, tag) {
+            Ok(Some(job)) => read_lists(alloc, mediator, kept, scope, last, job, most),
+            Ok(None) => unreachable!(),
+            Err(NoMemory) => Turn::Starved,
+        },
     }
 }
 
@@ -161,28 +166,6 @@ fn go_on(
     match Planning::resume(aside, alloc, &given.map, &given.ns, given.limit) {
         Ok(planning) => read_on(alloc, mediator, kept, scope, last, planning, most),
         Err(job) => read_lists(alloc, mediator, kept, scope, last, job, most),
-    }
-}
-
-// Goes through the lists of the command of a tag from their beginning.
-fn start_again(
-    alloc: Global,
-    mediator: &mut Mediator,
-    kept: &mut Kept,
-    scope: Scope,
-    last: &Last,
-    lane: u8,
-    tag: u8,
-    most: u64,
-) -> Turn
-    requires some { 0 < most }
-    requires waits { IsWaitingAt scope mediator.old lane tag }
-    ensures { IsTurn scope most mediator.old result mediator.new }
-{
-    match mediator.job(alloc, lane, tag) {
-        Ok(Some(job)) => read_lists(alloc, mediator, kept, scope, last, job, most),
-        Ok(None) => unreachable!(),
-        Err(NoMemory) => Turn::Starved,
     }
 }
 

@@ -1,6 +1,7 @@
 -- An event gives a guest no tags but a Take, which gives what one command of the guest may need.
 use Rattle.std.proofs.Common.{◌≡◌, ℕ, ◌+◌, ◌≤◌, ◌&&◌, ◌==◌, ◌⊎◌, inl, inr, Bool, true, false, cond, List, [], ◌∷◌, length, nat_le, slice_get}
 use Rattle.std.proofs.Common.{Option, Some, None, arith, refl, sym, ap, ◌∙◌, eq-eqb}
+use Rattle.std.specs.Bool.{⊤}
 use Rattle.std.specs.List.{All}
 use Rattle.std.proofs.lemmas.Bool.{cases_eq, ne_eqb}
 use Rattle.std.proofs.lemmas.List.{length-take-le}
@@ -16,6 +17,7 @@ use Rattle.nv_host.specs.Shares.{most_given, needed_of}
 use Rattle.nv_laws_sound.proofs.CountedEvents.{AreWhole, all-taken}
 use Rattle.nv_laws_sound.proofs.Folds.{HasTag, group-distinct, have-other, tag_of-other, with_tags-fold}
 use Rattle.nv_laws_sound.proofs.GroupsKept.{read-tag}
+use Rattle.nv_laws_sound.proofs.HandedOn.{handed-fold}
 use Rattle.nv_laws_sound.proofs.Numbers.{AreDistinct, numbers_where}
 use Rattle.nv_laws_sound.proofs.TagEvents.{IsTakenBy}
 use Rattle.nv_laws_sound.proofs.Takes.{claimed-is}
@@ -143,38 +145,12 @@ share-fewer w z mediator lane tag command t share o there taken is = by (is_no_c
     by true = taken-fewer w z lane tag t (Ended command (done_with Success) (Some share)) command there taken (λ guest. refl) is
     by false = on (slice_get z.device lane)
 
-submitted-other : (w : World) (mediator lane tag other : ℕ) (command : Command) (share : Share) (o : Owner) (d : DeviceLane) → (other == tag) ≡ false
-    → tag_of (submitted mediator lane tag command share o d w) lane other ≡ tag_of w lane other
-unfolding submitted
-submitted-other w mediator lane tag other command share o d apart =
-    (let written = share_written share o.given command.entry mediator lane tag d.tail w.host in
-    tag_of-other (with_device lane rung (with_host written w)) lane tag other (Flying command share (Queued d.tail)) apart)
-
-share-other : (w : World) (mediator lane tag other : ℕ) (command : Command) (share : Share) (o : Owner) → (other == tag) ≡ false
-    → tag_of (carried_out mediator lane tag command share o w) lane other ≡ tag_of w lane other
-share-other w mediator lane tag other command share o apart = by (is_no_command share)
-  where
-    on : (d : Option DeviceLane) → tag_of (submitted_on d mediator lane tag command share o w) lane other ≡ tag_of w lane other
-    on None = refl
-    on (Some d) = submitted-other w mediator lane tag other command share o d apart
-
-    by : (b : Bool) → tag_of (cond b (with_tag lane tag (Ended command (done_with Success) (Some share)) w)
-        (submitted_on (slice_get w.device lane) mediator lane tag command share o w)) lane other ≡ tag_of w lane other
-    by true = tag_of-other w lane tag other (Ended command (done_with Success) (Some share)) apart
-    by false = on (slice_get w.device lane)
-
 handed-fewer : (mediator lane : ℕ) (tags : List ℕ) (shares : List Share) (command : Command) (o : Owner) (w z : World)
     → All (HasTag (IsTakenBy command) z lane) tags → AreDistinct tags → IsFewer w z → IsFewer w (handed_on mediator lane tags shares command o z)
-unfolding handed_on
-handed-fewer mediator lane [] shares command o w z have apart is = is
-handed-fewer mediator lane (tag ∷ tags) [] command o w z have apart is = is
-handed-fewer mediator lane (tag ∷ tags) (share ∷ shares) command o w z have apart is =
-    (let h = All-head (HasTag (IsTakenBy command) z lane) tag tags have in
-    let v : World = carried_out mediator lane tag command share o z in
-    handed-fewer mediator lane tags shares command o w v
-    (have-other (IsTakenBy command) z v lane tag tags (λ other differ. share-other z mediator lane tag other command share o differ) apart.0
-    (All-tail (HasTag (IsTakenBy command) z lane) tag tags have)) apart.1
-    (share-fewer w z mediator lane tag command h.t share o h.is h.has is))
+handed-fewer mediator lane tags shares command o w z have apart is =
+    handed-fold (IsFewer w) (λ (share : Share). ⊤) mediator lane command o
+    (λ v tag t share there taken any less. share-fewer w v mediator lane tag command t share o there taken less) tags shares z have apart
+    (λ k d within. tt) is
 
 submit-fewer : (outcome : Outcome Plan) (w : World) (mediator lane : ℕ) (tags : List ℕ) (command : Command) (o : Owner)
     → All (HasTag (IsTakenBy command) w lane) tags → AreDistinct tags → IsFewer w (submit_by outcome mediator lane tags command o w).world

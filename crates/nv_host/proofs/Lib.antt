@@ -13,6 +13,7 @@ pub mod Made
 pub mod Over
 pub mod Readings
 pub mod Reaps
+pub mod Reports
 pub mod Rests
 pub mod Ring
 pub mod Room

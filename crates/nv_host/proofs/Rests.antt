@@ -1,6 +1,6 @@
 -- Where nothing of a scope is left to be done.
 use Rattle.std.proofs.Common.{◌≡◌, refl, sym, subst, ap, ◌∙◌, ℕ, ◌<◌, ◌≤◌, Bool, true, false, ◌&&◌, ◌==◌, cond, inl, inr, arith, eqb-true, nat_lt}
-use Rattle.std.proofs.Common.{List, length, slice_get, Option, Some, None}
+use Rattle.std.proofs.Common.{List, length, slice_get, Option, Some, None, is_some}
 use Rattle.std.proofs.lemmas.Bool.{cases_lt}
 use Rattle.std.proofs.lemmas.Bool.Decides.{nat_tests}
 use Rattle.std.proofs.lemmas.Option.{none-some, slice_get_past}
@@ -55,7 +55,7 @@ module _ (geometry : Geometry) (w : World) where
       (ap (λ (o : Option Owner). for_one o w (λ owner. administered_in owner w)) none) refl
 
   -- a command of no guest taken, or one on no lane, or from no I/O queue
-  take-no_guest : (guest queue lane : ℕ) → owner_of geometry w guest ≡ None → due geometry (event.Take guest queue lane) w ≡ false
+  pub take-no_guest : (guest queue lane : ℕ) → owner_of geometry w guest ≡ None → due geometry (event.Take guest queue lane) w ≡ false
   unfolding step
   take-no_guest guest queue lane none =
       due-not geometry (event.Take guest queue lane) w (replied reply.Ignored w)
@@ -69,7 +69,7 @@ module _ (geometry : Geometry) (w : World) where
       by_owner None = refl
       by_owner (Some o) = ap (λ (y : Option Lane). is_done (for_one y w (λ l. take_from queue lane l o w)).reply) none
 
-  take-no_queue : (guest queue lane : ℕ) → is_io_queue queue ≡ false → due geometry (event.Take guest queue lane) w ≡ false
+  pub take-no_queue : (guest queue lane : ℕ) → is_io_queue queue ≡ false → due geometry (event.Take guest queue lane) w ≡ false
   unfolding due step
   take-no_queue guest queue lane none = by_owner (owner_of geometry w guest)
     where
@@ -83,7 +83,7 @@ module _ (geometry : Geometry) (w : World) where
       by_owner (Some o) = by_lane o (slice_get w.lanes lane)
 
   -- a completion of no tag
-  post-no_tag : (lane tag : ℕ) → tag_of w lane tag ≡ None → due geometry (event.Post lane tag) w ≡ false
+  pub post-no_tag : (lane tag : ℕ) → tag_of w lane tag ≡ None → due geometry (event.Post lane tag) w ≡ false
   unfolding step
   post-no_tag lane tag none =
       due-not geometry (event.Post lane tag) w (replied reply.Ignored w)
@@ -205,6 +205,10 @@ not-own s guest lane tag isnt job given waits whose =
 pub no-job : (s : Scene) (guest lane tag : ℕ) → job_in lane tag (tag_in (slice_get s.served.side.lanes lane) tag) ≡ None
     → NoneWaitsAt s guest lane tag
 no-job s guest lane tag none job given waits whose = none-some job (sym none ∙ waits.taken)
+
+pub none-waiting : (s : Scene) (guest lane tag : ℕ) (waiting : Bool) → waiting ≡ false
+    → (is_some (job_in lane tag (tag_in (slice_get s.served.side.lanes lane) tag)) ≡ true → waiting ≡ true) → NoneWaitsAt s guest lane tag
+none-waiting s guest lane tag waiting isnt so job given waits whose = true-false waiting (so (ap is_some waits.taken)) isnt
 
 -- ---- a guest
 
@@ -379,7 +383,7 @@ module _ (s : Scene) (few : length s.served.setup.geometry.guests ≤ 16) (lanes
 
 -- ---- how many guests an accepted set-up has at most
 
-refused-not : (b : Bool) (r : Refusal) (rest : Option Refusal) → cond b (Some r) rest ≡ None → b ≡ false
+pub refused-not : (b : Bool) (r : Refusal) (rest : Option Refusal) → cond b (Some r) rest ≡ None → b ≡ false
 refused-not true r rest e = absurd (none-some r (sym e))
 refused-not false r rest e = refl
 

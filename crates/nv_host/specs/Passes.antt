@@ -4,8 +4,6 @@ use Rattle.nv_core.specs.Jobs.{holder_in, job_in}
 use Rattle.nv_core.specs.Submit.{IsCurrentIn, IsLimit}
 use Rattle.nv_core.specs.declared.holding.Holder.{Holder}
 use Rattle.nv_host.specs.Work.{HasEnded, IsIn, IsWork, Leads, NotDue, Rests, Scene, Waits}
-use Rattle.nv_host.specs.declared.planning.Choice.{Choice}
-use Rattle.nv_host.specs.declared.planning.Choice.TheVariants as choice
 use Rattle.nv_host.specs.declared.planning.GrantCopy.{GrantCopy}
 use Rattle.nv_host.specs.declared.planning.Stride.{Stride}
 use Rattle.nv_host.specs.declared.planning.Stride.TheVariants as stride
@@ -63,15 +61,6 @@ pub record MayGiveUp (guest : ℕ) (s : Scene) (lane tag : ℕ) : Type 0 where
 pub record IsGiven (s : Scene) (guest : ℕ) (copy : GrantCopy) : Type 0 where
   pub is : slice_get s.served.setup.geometry.guests guest ≡ Some (record { memory_map = copy.map; namespace = copy.ns; limit = copy.limit })
   pub limit : IsLimit copy.limit
-
--- what comes next of a guest's command that goes by a tag
-abbrev pub IsChoice : Scene → (guest lane tag : ℕ) → Choice → Type 0
-IsChoice s guest lane tag (choice.Submit plan) =
-    IsCurrentIn s.served.setup.geometry s.served.side.lanes plan × IsWork (scope.Guest guest) s (event.Submit plan.job.lane plan.job.tag)
-IsChoice s guest lane tag (choice.Read job) = (given : Guest) × IsWaiting guest s job given
-IsChoice s guest lane tag choice.GiveUp = MayGiveUp guest s lane tag
-IsChoice s guest lane tag choice.Nothing = NoneWaitsAt s guest lane tag
-IsChoice s guest lane tag choice.Starved = Rests (scope.Guest guest) s → ⊥
 
 -- a plan under way is that of such a command
 abbrev pub IsReading : (guest : ℕ) → Scene → UnderWay → Type 0

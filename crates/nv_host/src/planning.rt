@@ -1,10 +1,10 @@
 //! A guest's commands that wait for their plans: their lists are read, and their plans carried out.
 
-ghost use Rattle.std.specs.Prelude.{◌≡◌, ◌<◌, ◌≤◌, ◌↔◌, ℕ, IfOk, IsTrue, List, Some, length, slice_get};
+ghost use Rattle.std.specs.Prelude.{◌≡◌, ◌<◌, ◌≤◌, ◌↔◌, ℕ, IfOk, IsTrue, List, OnErr, Some, false, length, slice_get, true};
 ghost use Rattle.nv_core.specs.Jobs.{holder_in};
 ghost use Rattle.nv_core.specs.Submit.{IsCurrentIn, IsLimit};
-ghost use Rattle.nv_host.specs.Passes.{IsChoice, IsGiven, IsOwn, IsPass, IsReading, IsStride, IsWaiting, MayGiveUp, NoneWaits, NoneWaitsAt};
-ghost use Rattle.nv_host.specs.Work.{IsWork, scene};
+ghost use Rattle.nv_host.specs.Passes.{IsGiven, IsOwn, IsPass, IsReading, IsStride, IsWaiting, MayGiveUp, NoneWaits, NoneWaitsAt};
+ghost use Rattle.nv_host.specs.Work.{IsWork, Leads, scene};
 ghost use Rattle.nv_model.specs.Transcript.{Settled};
 ghost use Rattle.nv_plan.specs.Made.{outcome_of};
 ghost use Rattle.nv_world_model.specs.Geometry.{Guest};
@@ -12,29 +12,14 @@ ghost use Rattle.nv_world_model.specs.Plan.{Plan as Made};
 ghost use Rattle.nv_world_model.specs.World.{tag_in};
 
 use crate::host_mediator::HostMediator;
-use crate::worked::{Scope, Why, Worked};
+use crate::worked::{Scope, Why, Worked, is_done};
 use nv_core::Holder;
 use nv_mem::{GuestMap, MemoryCell, NoMemory};
 use nv_model::Reply;
 use nv_ns::VirtualNs;
-use nv_plan::{Job, Next, Plan, Planned, Planning, ReadDone, make_plan};
+use nv_plan::{Job, Next, Plan, Planned, Planning, ReadDone};
 use nv_world_model::Event;
 use std::alloc::Global;
-
-/// What comes next of a command.
-#[derive(Drop)]
-pub(crate) enum Choice {
-    /// this plan is carried out
-    Submit(Plan),
-    /// bytes of the lists of this job's command are read
-    Read(Job),
-    /// it is given up: there was no memory for its plan
-    GiveUp,
-    /// it does not wait
-    Nothing,
-    /// there was no memory to see
-    Starved,
-}
 
 /// How the reading of a command's lists went on.
 #[derive(Clone, Copy)]
@@ -113,64 +98,119 @@ impl HostMediator {
         ensures setup { self.new.setup ≡ self.old.setup }
         ensures len { length (C.bytes memory.new) ≡ length (C.bytes memory.old) }
     {
-        match self.next_of(alloc, guest, lane, tag, memory) {
-            Choice::Submit(plan) => self.carry_out(guest, plan, most, memory),
-            Choice::Read(job) => self.read_lists(alloc, guest, job, most, memory),
-            Choice::GiveUp => self.end_unplanned(guest, lane, tag, most, memory),
-            Choice::Nothing => Worked::so_far(0),
-            Choice::Starved => Worked {
+        if !self.is_own(guest, lane, tag) {
+            return Worked::so_far(0);
+        }
+        match self.limit(guest) {
+            None => Worked::so_far(0),
+            Some(_limit) => self.plan_own(alloc, guest, lane, tag, most, memory),
+        }
+    }
+
+    // The same where the command is that guest's, and the guest is there. Most commands have no lists, and are planned and handed on at once.
+    fn plan_own<C: MemoryCell>(
+        &mut self,
+        alloc: Global,
+        guest: u8,
+        lane: u8,
+        tag: u8,
+        most: u64,
+        memory: &mut [C],
+    ) -> Worked
+        requires some { 0 < most }
+        requires lent { length (C.bytes memory.old) ≡ self.old.setup.host_bytes }
+        requires own { IsOwn (scene self.old (C.bytes memory.old)) guest lane tag }
+        requires there { (given : Guest) × (slice_get self.old.setup.geometry.guests guest ≡ Some given) }
+        ensures pass { let old = scene self.old (C.bytes memory.old) in
+            IsPass (Scope.Guest guest) (NoneWaitsAt old guest lane tag) most result old (scene self.new (C.bytes memory.new)) }
+        ensures setup { self.new.setup ≡ self.old.setup }
+        ensures len { length (C.bytes memory.new) ≡ length (C.bytes memory.old) }
+    {
+        match self.has_submitted(alloc, guest, lane, tag, memory) {
+            Ok(submitted) => {
+                if submitted {
+                    return Worked::so_far(1);
+                }
+                self.read_for(alloc, guest, lane, tag, most, memory)
+            }
+            Err(NoMemory) => self.end_waiting(guest, lane, tag, most, memory),
+        }
+    }
+
+    // Plans the command that goes by a tag and hands it on, where it waits and no more of its lists is wanted; whether it did.
+    fn has_submitted<C: MemoryCell>(
+        &mut self,
+        alloc: Global,
+        guest: u8,
+        lane: u8,
+        tag: u8,
+        memory: &mut [C],
+    ) -> Result<bool, NoMemory>
+        requires lent { length (C.bytes memory.old) ≡ self.old.setup.host_bytes }
+        requires own { IsOwn (scene self.old (C.bytes memory.old)) guest lane tag }
+        ensures yes { IfOk result (λ is. is ≡ true →
+            Leads (Scope.Guest guest) 1 (scene self.old (C.bytes memory.old)) (scene self.new (C.bytes memory.new))) }
+        ensures no { IfOk result (λ is. is ≡ false → scene self.new (C.bytes memory.new) ≡ scene self.old (C.bytes memory.old)) }
+        ensures err { OnErr result (scene self.new (C.bytes memory.new) ≡ scene self.old (C.bytes memory.old)) }
+        ensures setup { self.new.setup ≡ self.old.setup }
+        ensures len { length (C.bytes memory.new) ≡ length (C.bytes memory.old) }
+    {
+        match self.submit(alloc, lane, tag, memory) {
+            Ok(reply) => Ok(is_done(&reply)),
+            Err(NoMemory) => Err(NoMemory),
+        }
+    }
+
+    // Reads the lists of the guest's command that goes by a tag, where it waits, up to its plan, which is carried out.
+    fn read_for<C: MemoryCell>(
+        &mut self,
+        alloc: Global,
+        guest: u8,
+        lane: u8,
+        tag: u8,
+        most: u64,
+        memory: &mut [C],
+    ) -> Worked
+        requires some { 0 < most }
+        requires lent { length (C.bytes memory.old) ≡ self.old.setup.host_bytes }
+        requires own { IsOwn (scene self.old (C.bytes memory.old)) guest lane tag }
+        requires there { (given : Guest) × (slice_get self.old.setup.geometry.guests guest ≡ Some given) }
+        ensures pass { let old = scene self.old (C.bytes memory.old) in
+            IsPass (Scope.Guest guest) (NoneWaitsAt old guest lane tag) most result old (scene self.new (C.bytes memory.new)) }
+        ensures setup { self.new.setup ≡ self.old.setup }
+        ensures len { length (C.bytes memory.new) ≡ length (C.bytes memory.old) }
+    {
+        match self.job(alloc, lane, tag) {
+            Ok(job) => match job {
+                None => Worked::so_far(0),
+                Some(job) => self.read_lists(alloc, guest, job, most, memory),
+            },
+            Err(NoMemory) => Worked {
                 done: 0,
                 why: Why::Starved,
             },
         }
     }
 
-    // What comes next of the guest's command that goes by a tag.
-    fn next_of<C: MemoryCell>(
-        &self,
-        alloc: Global,
+    // Gives the guest's command up that goes by a tag, where it waits: there was no memory for its plan.
+    fn end_waiting<C: MemoryCell>(
+        &mut self,
         guest: u8,
         lane: u8,
         tag: u8,
+        most: u64,
         memory: &[C],
-    ) -> Choice
-        ensures { IsChoice (scene self.now (C.bytes memory.now)) guest lane tag result }
+    ) -> Worked
+        requires some { 0 < most }
+        requires own { IsOwn (scene self.old (C.bytes memory.now)) guest lane tag }
+        ensures pass { let old = scene self.old (C.bytes memory.now) in
+            IsPass (Scope.Guest guest) (NoneWaitsAt old guest lane tag) most result old (scene self.new (C.bytes memory.now)) }
+        ensures setup { self.new.setup ≡ self.old.setup }
     {
-        let own = self.is_own(guest, lane, tag);
-        if own {
-            return match self.limit(guest) {
-                None => Choice::Nothing,
-                Some(_limit) => self.choose(alloc, guest, lane, tag, memory),
-            };
+        if self.is_waiting(lane, tag) {
+            return self.end_unplanned(guest, lane, tag, most, memory);
         }
-        Choice::Nothing
-    }
-
-    // The same where the command is that guest's, and the guest is there.
-    fn choose<C: MemoryCell>(
-        &self,
-        alloc: Global,
-        guest: u8,
-        lane: u8,
-        tag: u8,
-        _memory: &[C],
-    ) -> Choice
-        requires own { IsOwn (scene self.now (C.bytes _memory.now)) guest lane tag }
-        requires there { (given : Guest) × (slice_get self.now.setup.geometry.guests guest ≡ Some given) }
-        ensures { IsChoice (scene self.now (C.bytes _memory.now)) guest lane tag result }
-    {
-        let Ok(job) = self.job(alloc, lane, tag) else {
-            return Choice::Starved;
-        };
-        let Some(job) = job else {
-            return Choice::Nothing;
-        };
-        let (map, ns, limit) = self.given_to(guest);
-        match make_plan(alloc, alloc, job, map, ns, limit) {
-            Planned::Need(job, _, _) => Choice::Read(job),
-            Planned::Plan(plan) => Choice::Submit(plan),
-            Planned::NoMemory(_) => Choice::GiveUp,
-        }
+        Worked::so_far(0)
     }
 
     // Whether a command of the guest's goes by a tag.

@@ -1,12 +1,13 @@
 //! A guest's commands, taken from its queues.
 
-ghost use Rattle.std.specs.Prelude.{◌≡◌, ◌<◌, ◌≤◌, ℕ, IsTrue, false, length};
+ghost use Rattle.std.specs.Prelude.{◌≡◌, ◌<◌, ◌≤◌, ℕ, IsTrue, false, length, slice_get};
+ghost use Rattle.nv_core.specs.Noted.{has_front};
 ghost use Rattle.nv_host.specs.Passes.{IsPass};
 ghost use Rattle.nv_host.specs.Work.{Leads, NotDue, scene};
 
 use crate::closing::Closed;
 use crate::host_mediator::HostMediator;
-use crate::worked::{Scope, Worked};
+use crate::worked::{Scope, Worked, is_done};
 use nv_mem::MemoryCell;
 use nv_model::limits::LAST_QUEUE;
 use nv_world_model::Event;
@@ -64,13 +65,21 @@ impl HostMediator {
         ensures setup { self.new.setup ≡ self.old.setup }
         ensures len { length (C.bytes memory.new) ≡ length (C.bytes memory.old) }
     {
-        if !self.front.waits(guest, queue) {
+        if !self.waits(guest, queue) {
             return Worked::so_far(0);
         }
         self.take_lanes(alloc, guest, queue, turn, most, memory)
     }
 
-    // Takes commands of a queue of the guest's for all lanes, and plans them.
+    // Whether a command of a queue of the guest's may be taken, where enough tags are free.
+    #[inline(always)]
+    fn waits(&self, guest: u8, queue: u16) -> bool
+        ensures { result ≡ has_front queue (slice_get self.now.side.controllers guest) }
+    {
+        self.front.waits(guest, queue)
+    }
+
+    // Takes commands of a queue of the guest's for all lanes, as long as any waits, and plans them.
     fn take_lanes<C: MemoryCell>(
         &mut self,
         alloc: Global,
@@ -94,6 +103,9 @@ impl HostMediator {
             if done >= turn {
                 return Worked::so_far(done);
             }
+            if !self.waits(guest, queue) {
+                return Worked::so_far(done);
+            }
             let pass = self.take_on(alloc, guest, queue, lane, turn - done, most - done, memory);
             let stopped = pass.has_stopped();
             let whole = Worked::after(done, pass);
@@ -105,34 +117,8 @@ impl HostMediator {
         Worked::so_far(done)
     }
 
-    // Takes commands of a queue of the guest's for a lane, where any is left, and plans them.
-    #[inline(always)]
+    // Takes commands of a queue of the guest's for a lane, and plans them.
     fn take_on<C: MemoryCell>(
-        &mut self,
-        alloc: Global,
-        guest: u8,
-        queue: u16,
-        lane: u8,
-        turn: u64,
-        most: u64,
-        memory: &mut [C],
-    ) -> Worked
-        requires some { 0 < turn }
-        requires within { turn ≤ most }
-        requires lent { length (C.bytes memory.old) ≡ self.old.setup.host_bytes }
-        ensures pass { let old = scene self.old (C.bytes memory.old) in
-            IsPass (Scope.Guest guest) (NotDue old (Event.Take guest queue lane)) most result old (scene self.new (C.bytes memory.new)) }
-        ensures setup { self.new.setup ≡ self.old.setup }
-        ensures len { length (C.bytes memory.new) ≡ length (C.bytes memory.old) }
-    {
-        if !self.front.waits(guest, queue) {
-            return Worked::so_far(0);
-        }
-        self.take_there(alloc, guest, queue, lane, turn, most, memory)
-    }
-
-    // The same where some command waits.
-    fn take_there<C: MemoryCell>(
         &mut self,
         alloc: Global,
         guest: u8,
@@ -180,6 +166,9 @@ impl HostMediator {
     {
         let mut done: u64 = 0;
         while done < most {
+            if !self.waits(guest, queue) {
+                return done;
+            }
             let taken = self.has_taken(alloc, guest, queue, lane, memory);
             if taken {
                 done += 1;
@@ -207,12 +196,9 @@ impl HostMediator {
         if !self.has_share(guest, lane) {
             return false;
         }
-        if self.due(&Event::Take(guest, queue, lane), memory) {
-            return match self.take(alloc, guest, queue, lane, memory) {
-                Ok(_reply) => true,
-                Err(Closed) => false,
-            };
+        match self.take(alloc, guest, queue, lane, memory) {
+            Ok(reply) => is_done(&reply),
+            Err(Closed) => false,
         }
-        false
     }
 }

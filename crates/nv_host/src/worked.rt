@@ -2,6 +2,8 @@
 
 ghost use Rattle.std.specs.Prelude.{◌≡◌, ◌+◌, ◌^◌, ◌<◌, ◌≤◌, IsTrue, false};
 
+use nv_model::Reply;
+
 /// Of whom what is due is carried out.
 #[derive(Clone, Copy, Debug, PartialEq, Eq)]
 pub enum Scope {
@@ -89,4 +91,12 @@ impl Worked {
         }
         self.done == 0
     }
+}
+
+/// Whether that is the reply to what was done.
+pub(crate) fn is_done(reply: &Reply) -> bool
+    ensures yes { IsTrue result → reply.now ≡ Reply.Done }
+    ensures no { result ≡ false → reply.now ≡ Reply.Done → ⊥ }
+{
+    matches!(reply, Reply::Done)
 }

@@ -5,13 +5,13 @@ ghost use Rattle.std.specs.List.{list_any};
 ghost use Rattle.nv_host.specs.Passes.{IsPass, NonePosts, QueuesRest};
 ghost use Rattle.nv_host.specs.Work.{IsStray, IsWorked, Leads, NotDue, Rests, scene};
 ghost use Rattle.nv_world_model.specs.Area.{tag_count};
+ghost use Rattle.nv_world_model.specs.SetUp.{most_guests};
 ghost use Rattle.nv_world_model.specs.World.{Lane};
 
 use crate::host_mediator::HostMediator;
-use crate::worked::{Scope, Why, Worked};
+use crate::worked::{Scope, Why, Worked, is_done};
 use nv_core::Stray;
 use nv_mem::MemoryCell;
-use nv_model::Reply;
 use nv_tags::Group;
 use nv_world_model::Event;
 use std::alloc::Global;
@@ -119,7 +119,7 @@ impl HostMediator {
         requires some { 0 < most }
         requires lent { length (C.bytes memory.old) ≡ self.old.setup.host_bytes }
         ensures pass { let old = scene self.old (C.bytes memory.old) in
-            IsPass Scope.All ((guest : ℕ) → guest < 16 → Rests (Scope.Guest guest) old) most result old (scene self.new (C.bytes memory.new)) }
+            IsPass Scope.All ((guest : ℕ) → guest < most_guests → Rests (Scope.Guest guest) old) most result old (scene self.new (C.bytes memory.new)) }
         ensures setup { self.new.setup ≡ self.old.setup }
         ensures len { length (C.bytes memory.new) ≡ length (C.bytes memory.old) }
     {
@@ -164,7 +164,7 @@ impl HostMediator {
         requires some { 0 < most }
         requires lent { length (C.bytes memory.old) ≡ self.old.setup.host_bytes }
         ensures pass { let old = scene self.old (C.bytes memory.old) in
-            IsPass Scope.All ((guest : ℕ) → guest < 16 → QueuesRest old guest) most result old (scene self.new (C.bytes memory.new)) }
+            IsPass Scope.All ((guest : ℕ) → guest < most_guests → QueuesRest old guest) most result old (scene self.new (C.bytes memory.new)) }
         ensures setup { self.new.setup ≡ self.old.setup }
         ensures len { length (C.bytes memory.new) ≡ length (C.bytes memory.old) }
     {
@@ -459,17 +459,9 @@ impl HostMediator {
     // What is kept of how many lanes, guests and tags there are.
     pub(crate) fn sizes(&self)
         ensures lanes { length self.now.side.lanes ≡ self.now.setup.lanes }
-        ensures guests { length self.now.setup.geometry.guests ≤ 16 }
+        ensures guests { length self.now.setup.geometry.guests ≤ most_guests }
         ensures tags { (lane : ℕ) (l : Lane) → slice_get self.now.side.lanes lane ≡ Some l → length l.tags ≡ tag_count }
     {
         let _known = &self.front;
     }
-}
-
-// Whether that is the reply to what was done.
-fn is_done(reply: &Reply) -> bool
-    ensures yes { IsTrue result → reply.now ≡ Reply.Done }
-    ensures no { result ≡ false → reply.now ≡ Reply.Done → ⊥ }
-{
-    matches!(reply, Reply::Done)
 }

@@ -1,6 +1,6 @@
 use Rattle.std.proofs.Common.{refl}
 use Rattle.nv_c.proofs.Readings.{waiting-works}
-use Rattle.nv_c.proofs.reading.start_again.Goals as goal
+use Rattle.nv_c.proofs.reading.resume_lists.Goals as goal
 
 pub returns-in-Err : goal.returns-in-Err
 returns-in-Err c =

@@ -1,7 +1,7 @@
 use Rattle.std.proofs.Common.{arith, inl, inr}
 use Rattle.std.proofs.lemmas.Bool.{cases_lt}
 use Rattle.nv_c.proofs.Rests.{tag-none}
-use Rattle.nv_c.proofs.Works.{post-no_tag}
+use Rattle.nv_host.proofs.Rests.{post-no_tag}
 use Rattle.nv_mediator.specs.Hosted.{hosted_world}
 use Rattle.nv_c.proofs.working.next_post.Goals as goal
 

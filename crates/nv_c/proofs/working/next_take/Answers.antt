@@ -1,7 +1,7 @@
 use Rattle.std.proofs.Common.{◌≡◌, ℕ, ◌≤◌, ◌<◌, false, arith, inl, inr}
 use Rattle.std.proofs.lemmas.Bool.{cases_lt}
 use Rattle.std.proofs.lemmas.Bool.Decides.{nat_tests}
-use Rattle.nv_c.proofs.Works.{take-no_queue}
+use Rattle.nv_host.proofs.Rests.{take-no_queue}
 use Rattle.nv_mediator.specs.Hosted.{hosted_world}
 use Rattle.nv_world_model.specs.Step.{is_io_queue}
 use Rattle.nv_c.proofs.working.next_take.Goals as goal

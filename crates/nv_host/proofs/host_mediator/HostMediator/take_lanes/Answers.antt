@@ -1,7 +1,9 @@
-use Rattle.std.proofs.Common.{◌≡◌, ◌∙◌, ℕ, arith, inl, inr, length, refl}
+use Rattle.std.proofs.Common.{◌≡◌, ◌∙◌, ℕ, arith, inl, inr, length, refl, subst, sym}
+use Rattle.nv_host.proofs.Queues.{none-takes}
+use Rattle.nv_host.proofs.Works.{leads_zero}
 use Rattle.std.proofs.lemmas.Bool.{cases_lt}
 use Rattle.nv_host.proofs.Rests.{past-take}
-use Rattle.nv_host.proofs.Rounds.{after-fits, round-end, round-full, round-none, round-on, round-stop}
+use Rattle.nv_host.proofs.Rounds.{after-fits, pass-far, round-end, round-full, round-none, round-on, round-stop}
 use Rattle.nv_world_model.specs.declared.event.Event.TheVariants as event
 use Rattle.nv_host.specs.Work.{NotDue, Scene, scene}
 use Rattle.nv_host.specs.declared.worked.Scope.TheVariants as scope
@@ -30,6 +32,16 @@ returns-then-done-turn-clause-pass g c =
     let b : Scene = scene c.loop-lane.self (g.C.MemoryCell.bytes c.loop-lane.memory) in
     round-full (scope.Guest c.args.guest) c.args.most c.loop-lane.done c.loop-lane.lane (λ (s : Scene) (k : ℕ). NotDue s (event.Take c.args.guest c.args.queue k)) a
     b c.loop-lane.invariant.round _ c.args.turn c.so_far.result c.so_far.ensures c.if-done-turn.true c.requires.some
+
+pub returns-then-not-waits-clause-pass : goal.returns-then-not-waits-clause-pass
+returns-then-not-waits-clause-pass g c =
+    let a : Scene = scene c.args.self.now (g.C.MemoryCell.bytes c.args.memory.now) in
+    let b : Scene = scene c.loop-lane.self (g.C.MemoryCell.bytes c.loop-lane.memory) in
+    let round = c.loop-lane.invariant.round in
+    pass-far (scope.Guest c.args.guest) _ c.args.most c.loop-lane.done c.so_far-then-not-waits.result a b c.so_far-then-not-waits.ensures round.leads round.few
+    (λ zero. subst (λ (s : Scene). (lane : ℕ) → NotDue s (event.Take c.args.guest c.args.queue lane))
+    (leads_zero (scope.Guest c.args.guest) a b c.loop-lane.done round.leads zero)
+    (none-takes b c.args.guest c.args.queue (sym c.waits.ensures ∙ c.if-not-waits.true)))
 
 pub returns-then-stopped-clause-pass : goal.returns-then-stopped-clause-pass
 returns-then-stopped-clause-pass g c =

@@ -4,7 +4,7 @@ use Rattle.nv_host.specs.Passes.{NoneWaits}
 use Rattle.nv_host.specs.Work.{Scene, scene}
 use Rattle.nv_host.specs.declared.worked.Scope.TheVariants as scope
 use Rattle.nv_host.specs.declared.worked.Worked.{Worked}
-use Rattle.nv_host.proofs.host_mediator.HostMediator.take_there.Goals as goal
+use Rattle.nv_host.proofs.host_mediator.HostMediator.take_on.Goals as goal
 
 pub returns-then-done-eq0-clause-pass : goal.returns-then-done-eq0-clause-pass
 returns-then-done-eq0-clause-pass g c =

@@ -1,4 +1,5 @@
 use Rattle.std.proofs.Common.{◌∙◌, ℕ, List, arith, refl, subst, sym}
+use Rattle.nv_host.proofs.Queues.{none-takes}
 use Rattle.nv_host.proofs.Works.{leads_more, leads_none, leads_zero}
 use Rattle.nv_host.specs.Served.{Served}
 use Rattle.nv_host.specs.Work.{Leads, NotDue, Scene, scene}
@@ -22,6 +23,19 @@ loop-done-preserved g c =
       few = omega (arith, below);
       setup = c.has_taken-taken.ensures.setup ∙ c.loop-done.invariant.setup;
     }
+
+pub returns-then-not-waits-clause-leads : goal.returns-then-not-waits-clause-leads
+returns-then-not-waits-clause-leads g c = c.loop-done.invariant.leads
+
+pub returns-then-not-waits-clause-few : goal.returns-then-not-waits-clause-few
+returns-then-not-waits-clause-few g c = c.loop-done.invariant.few
+
+pub returns-then-not-waits-clause-none : goal.returns-then-not-waits-clause-none
+returns-then-not-waits-clause-none g c = λ zero.
+    let a : Scene = scene c.args.self.now (g.C.MemoryCell.bytes c.args.memory.now) in
+    let b : Scene = scene c.loop-done.self (g.C.MemoryCell.bytes c.args.memory.now) in
+    subst (λ (x : Scene). NotDue x (event.Take c.args.guest c.args.queue c.args.lane)) (leads_zero (scope.Guest c.args.guest) a b c.loop-done.done c.loop-done.invariant.leads zero)
+    (none-takes b c.args.guest c.args.queue (sym c.waits.ensures ∙ c.if-not-waits.true) c.args.lane)
 
 pub returns-else-taken-clause-leads : goal.returns-else-taken-clause-leads
 returns-else-taken-clause-leads g c =
