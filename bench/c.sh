@@ -16,7 +16,7 @@
 #     bench/c.sh                     builds the library by rt lib, which proves what is not proved yet, and does all of the above
 #     bench/c.sh install PREFIX      installs it below PREFIX, or below DESTDIR and PREFIX where DESTDIR is set, and runs nothing
 #     bench/c.sh time                prints how long nvmed_work takes, over a drive of the host's (bench/serving.c) and of a simulation (bench/work.c), and
-#                                    runs nothing else
+#                                    a plain loop in C that proves nothing (bench/plain.c), and runs nothing else
 #     LIBRARY=libnv_c.a bench/c.sh   takes a library that is built already; so with install and time
 set -euo pipefail
 export LC_ALL=C
@@ -268,7 +268,7 @@ fi
 
 if [[ ${1:-} == time ]]; then
     warnings+=(-O2)
-    for program in serving work; do
+    for program in serving plain work; do
         build "$top/bench/$program.c" c "$room/$program"
         "$room/$program"
     done

@@ -1,5 +1,5 @@
 -- A command that waits for its plan, while its lists are read.
-use Rattle.std.proofs.Common.{◌≡◌, ◌∙◌, sym, ap, subst, ℕ, List, slice_get, Option, Some, is_some, true, refl}
+use Rattle.std.proofs.Common.{◌≡◌, ◌∙◌, sym, ap, subst, ℕ, List, slice_get, Some, refl}
 use Rattle.std.specs.Option.{option_map}
 use Rattle.nv_c.proofs.ListJobs.{list-job}
 use Rattle.nv_c.proofs.Works.{leads_one}

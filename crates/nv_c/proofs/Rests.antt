@@ -1,5 +1,5 @@
 -- Where nothing of a scope is left to be done.
-use Rattle.std.proofs.Common.{◌≡◌, refl, sym, subst, ap, ◌∙◌, ℕ, ◌+◌, ◌-◌, ◌<◌, ◌≤◌, Bool, true, false, ◌==◌, cond, inl, inr, arith, eqb-true}
+use Rattle.std.proofs.Common.{◌≡◌, refl, sym, subst, ap, ◌∙◌, ℕ, ◌+◌, ◌-◌, ◌<◌, ◌≤◌, Bool, true, false, inl, inr, arith}
 use Rattle.std.proofs.Common.{◌&&◌, nat_lt, length, slice_get, Option, Some, None, is_some}
 use Rattle.std.proofs.lemmas.Bool.{cases_lt}
 use Rattle.std.proofs.lemmas.Bool.Decides.{nat_tests}
@@ -12,8 +12,7 @@ use Rattle.nv_c.specs.declared.working.Choice.TheVariants as choice
 use Rattle.nv_c.specs.declared.working.Scope.{Scope}
 use Rattle.nv_c.specs.declared.working.Scope.TheVariants as scope
 use Rattle.nv_host.proofs.Rests.{admin-no_guest, own-job, post-no_tag, refused-not, take-no_guest, take-no_lane, true-false}
-use Rattle.nv_core.specs.Jobs.{holder_in, holder_of, job_in, job_of, job_with}
-use Rattle.nv_core.specs.Submit.{IsOfTag}
+use Rattle.nv_core.specs.Jobs.{holder_of, job_in, job_of}
 use Rattle.nv_core.specs.declared.holding.Holder.{Holder}
 use Rattle.nv_laws_sound.proofs.LaidOuts.{accepted, sizes-of}
 use Rattle.nv_laws_sound.proofs.Lists.{slice_get-below, slice_get-there, some-same}
@@ -26,7 +25,7 @@ use Rattle.nv_world_model.specs.Device.{DeviceLane}
 use Rattle.nv_world_model.specs.Due.{due, is_due_kind}
 use Rattle.nv_world_model.specs.Geometry.{Geometry, Guest}
 use Rattle.nv_world_model.specs.Seat.{owner_by, owner_of}
-use Rattle.nv_world_model.specs.SetUp.{Refusal, SetUp, TooManyGuests, most_guests, refusal_of, script_limits}
+use Rattle.nv_world_model.specs.SetUp.{SetUp, TooManyGuests, most_guests, refusal_of, script_limits}
 use Rattle.nv_world_model.specs.Step.{is_done, step}
 use Rattle.nv_world_model.specs.World.{Ended, Flying, Free, Lane, Tag, Taken, World, tag_in, tag_of}
 use Rattle.nv_world_model.specs.declared.event.Event.{Event}

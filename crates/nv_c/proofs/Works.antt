@@ -1,23 +1,20 @@
 -- Events that work makes in a row, and what is left of a world where nothing of a scope comes next.
-use Rattle.std.proofs.Common.{◌≡◌, refl, sym, subst, ap, ◌∙◌, ℕ, zero, suc, ◌+◌, ◌-◌, ◌<◌, ◌≤◌, Bool, true, false, ◌&&◌, cond, arith}
+use Rattle.std.proofs.Common.{◌≡◌, refl, sym, subst, ap, ◌∙◌, ℕ, zero, suc, ◌+◌, ◌-◌, ◌<◌, ◌≤◌, false, arith}
 use Rattle.std.proofs.Common.{List, [], ◌∷◌, ◌++◌, length, length-append, slice_get, Option, Some, None}
-use Rattle.std.proofs.lemmas.Option.{none-some}
 use Rattle.nv_c.specs.Work.{AreMade, HasEnough, IsStarved, IsTurn, IsWork, Leads, LeadsUp, MayGiveUp, Rests, turn_with}
 use Rattle.nv_c.specs.declared.working.Scope.{Scope}
 use Rattle.nv_c.specs.declared.working.Turn.{Turn}
 use Rattle.nv_c.specs.declared.working.Turn.TheVariants as turn
 use Rattle.nv_host.proofs.Rests.{due-not}
 use Rattle.nv_mediator.specs.Hosted.{Hosted, IsMade}
-use Rattle.nv_model.specs.Controller.{front}
 use Rattle.nv_model.specs.declared.reply.Reply.{Reply}
 use Rattle.nv_model.specs.declared.reply.Reply.TheVariants as reply
 use Rattle.nv_world_model.specs.Device.{DeviceLane}
-use Rattle.nv_world_model.specs.Due.{due, is_due_kind}
+use Rattle.nv_world_model.specs.Due.{due}
 use Rattle.nv_world_model.specs.Geometry.{Geometry}
-use Rattle.nv_world_model.specs.Seat.{Owner, owner_of}
-use Rattle.nv_world_model.specs.Step.{After, administered_in, device_move, device_post, device_take, for_ended, for_held, for_one, for_owner, is_done, is_io_queue}
-use Rattle.nv_world_model.specs.Step.{post_all, reap, replied, statuses_of, step, take_from, take_front}
-use Rattle.nv_world_model.specs.World.{Lane, Tag, World, group, tag_of}
+use Rattle.nv_world_model.specs.Step.{After, device_move, device_post, device_take, for_held, for_one, is_done}
+use Rattle.nv_world_model.specs.Step.{reap, replied, step}
+use Rattle.nv_world_model.specs.World.{Lane, World}
 use Rattle.nv_world_model.specs.declared.event.Event.{Event}
 use Rattle.nv_world_model.specs.declared.event.Event.TheVariants as event
 

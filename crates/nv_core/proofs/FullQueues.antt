@@ -5,7 +5,7 @@ use Rattle.nv_core.proofs.GroupTags.{lane-where, numbers-from}
 use Rattle.nv_core.proofs.TagLists.{made-at}
 use Rattle.nv_core.specs.Front.{IsSideOf, Side}
 use Rattle.nv_core.specs.FullQueues.{AreWaiting, IsFull, from_in, is_from, origin_by, origin_in}
-use Rattle.nv_core.specs.Tags.{IsUsed, IsWhole, command_at, tag_made, tags_of}
+use Rattle.nv_core.specs.Tags.{IsUsed, IsWhole, tag_made, tags_of}
 use Rattle.nv_core.specs.declared.full.Origin.{Origin}
 use Rattle.nv_core.specs.declared.progress.Progress.{Progress}
 use Rattle.nv_entry.specs.Status.{StatusField}

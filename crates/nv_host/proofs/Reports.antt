@@ -1,5 +1,5 @@
 -- What the replies of a Take and of a Submit say: that it was due, and is done, or that nothing has changed.
-use Rattle.std.proofs.Common.{◌≡◌, ◌==◌, refl, sym, subst, ap, ◌∙◌, ℕ, ◌&&◌, Bool, true, false, cond, not, List, Option, Some, None, slice_get}
+use Rattle.std.proofs.Common.{◌≡◌, ◌==◌, refl, sym, ap, ◌∙◌, ℕ, ◌&&◌, Bool, true, false, cond, not, List, Option, Some, None, slice_get}
 use Rattle.nv_core.proofs.Sides.{own-world}
 use Rattle.nv_core.specs.Jobs.{job_in, job_with}
 use Rattle.nv_host.proofs.Readings.{waiting-guest, waiting-submit}
@@ -16,7 +16,6 @@ use Rattle.nv_model.specs.declared.reply.Reply.{Reply}
 use Rattle.nv_model.specs.declared.reply.Reply.TheVariants as reply
 use Rattle.nv_plan.specs.declared.job.Job.{Job}
 use Rattle.nv_world_model.proofs.Seats.{owner_of-is, owner_of-number}
-use Rattle.nv_world_model.specs.Device.{DeviceLane}
 use Rattle.nv_world_model.specs.Due.{due}
 use Rattle.nv_world_model.specs.Geometry.{Geometry, Guest}
 use Rattle.nv_world_model.specs.Plan.{Plan, plan_over}

@@ -1,9 +1,9 @@
 -- What the calls below `HostMediator::work` say of each other (profile).
 use Rattle.std.specs.Prelude.{◌≡◌, ℕ, slice_get, IsSome, Some}
 use Rattle.nv_core.specs.Jobs.{holder_in, job_in}
-use Rattle.nv_core.specs.Submit.{IsCurrentIn, IsLimit}
+use Rattle.nv_core.specs.Submit.{IsLimit}
 use Rattle.nv_core.specs.declared.holding.Holder.{Holder}
-use Rattle.nv_host.specs.Work.{HasEnded, IsIn, IsWork, Leads, NotDue, Rests, Scene, Waits}
+use Rattle.nv_host.specs.Work.{HasEnded, IsIn, Leads, NotDue, Rests, Scene, Waits}
 use Rattle.nv_host.specs.declared.planning.GrantCopy.{GrantCopy}
 use Rattle.nv_host.specs.declared.planning.Stride.{Stride}
 use Rattle.nv_host.specs.declared.planning.Stride.TheVariants as stride

@@ -1,4 +1,4 @@
-use Rattle.std.proofs.Common.{◌≡◌, ap, refl}
+use Rattle.std.proofs.Common.{ap, refl}
 use Rattle.std.specs.Option.{option_map}
 use Rattle.nv_core.specs.declared.holding.Holder.{Holder}
 use Rattle.nv_host.proofs.Rests.{none-waiting}

@@ -1,4 +1,3 @@
-use Rattle.std.proofs.Common.{◌≡◌}
 use Rattle.nv_host.proofs.Reports.{submit-dull, submit-work}
 use Rattle.nv_host.proofs.Works.{leads_one, scene-same}
 use Rattle.nv_host.specs.Work.{Scene, scene}

@@ -1,4 +1,4 @@
-use Rattle.std.proofs.Common.{◌≡◌, ◌∙◌, ap, not, refl, sym}
+use Rattle.std.proofs.Common.{◌∙◌, ap, not, refl, sym}
 use Rattle.nv_host.proofs.Reports.{take-due, take-dull, take-undue}
 use Rattle.nv_host.proofs.Rests.{and-both, true-false}
 use Rattle.nv_host.proofs.Works.{leads_one}

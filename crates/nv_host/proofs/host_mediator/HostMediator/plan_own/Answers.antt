@@ -1,4 +1,4 @@
-use Rattle.std.proofs.Common.{◌≡◌, ap, arith, slice_get, Some, subst, sym}
+use Rattle.std.proofs.Common.{◌≡◌, arith, slice_get, Some, subst, sym}
 use Rattle.nv_host.proofs.Rounds.{pass-far}
 use Rattle.nv_host.specs.Passes.{IsOwn, IsPass, NoneWaitsAt}
 use Rattle.nv_host.specs.Work.{Scene, scene}

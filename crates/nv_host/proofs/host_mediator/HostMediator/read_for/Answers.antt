@@ -36,6 +36,8 @@ returns-in-Err-clause-pass g c =
     let there = c.requires.there in
     let some = some-job (job_in c.args.lane c.args.tag (tag_in (slice_get c.args.self.now.side.lanes c.args.lane) c.args.tag)) c.in-Err.ensures.err in
     let its : slice_get c.args.self.now.setup.geometry.guests some.0.guest ≡ Some there.0 =
-    ap (slice_get c.args.self.now.setup.geometry.guests) (job-guest a c.args.guest c.args.lane c.args.tag some.0 c.requires.own some.1) ∙ there.1 in
-    (leads_none (scope.Guest c.args.guest) a a refl, c.requires.some,
-    waiting-works c.args.guest a some.0 there.0 (waiting-guest a c.args.guest c.args.lane c.args.tag some.0 there.0 c.requires.own some.1 its))
+    ap (slice_get c.args.self.now.setup.geometry.guests) (job-guest a c.args.guest c.args.lane c.args.tag some.0 c.requires.own some.1) ∙ there.1 in (
+      leads_none (scope.Guest c.args.guest) a a refl,
+      c.requires.some,
+      waiting-works c.args.guest a some.0 there.0 (waiting-guest a c.args.guest c.args.lane c.args.tag some.0 there.0 c.requires.own some.1 its),
+    )
