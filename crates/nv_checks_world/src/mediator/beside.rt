@@ -110,12 +110,15 @@ fn runs(both: &mut Both, alloc: Global, seed: u64, seen: &mut Seen) -> Result<()
     Ok(())
 }
 
+// Whether a page is the same in both.
+fn has_same_page(both: &Both, addr: u64) -> bool {
+    is_same_page(both.mediator.host(), both.world.host(), addr)
+}
+
 // Whether all pages that are compared are the same.
 fn is_same_memory(both: &Both) -> bool {
-    let (one, other) = (both.mediator.host(), both.world.host());
-    PAGES.iter().all(|(start, count)| (0..*count).all(|page| is_same_page(
-        one,
-        other,
+    PAGES.iter().all(|(start, count)| (0..*count).all(|page| has_same_page(
+        both,
         start + PAGE_SIZE * page,
     )))
 }
