@@ -51,7 +51,7 @@ const OFFSETS: &[u32] = &[
     0x00, 0x04, 0x08, 0x0c, 0x14, 0x1c, 0x24, 0x28, 0x2c, 0x30, 0x34, 0x38, 0x03, 0x1000,
 ];
 
-/// What such a guest names. One that stands twice comes twice as often.
+/// What such a guest names. One that is there twice comes twice as often.
 #[derive(Clone, Copy)]
 pub struct Wild {
     /// Addresses that mean something.

@@ -26,7 +26,7 @@ pub record Side : Type 0 where
 abbrev pub tails_of : List DeviceLane → List ℕ
 tails_of ds = map (λ d. d.tail) ds
 
--- the physical controller's side of the lanes once the doorbells were rung with these tails
+-- the physical controller's side of the lanes once the doorbells were written with these tails
 abbrev pub rung_with : (tails : List ℕ) → List DeviceLane → List DeviceLane
 rung_with [] ds = ds
 rung_with (tail ∷ tails) [] = []
@@ -56,7 +56,7 @@ pub record IsLive (geometry : Geometry) (w : World) : Type 0 where
   pub consistent : IsConsistent geometry w
   pub phased : ArePhased geometry w
 
--- the world with another side and memory, and with the doorbells rung
+-- the world with another side and memory, and with the doorbells written
 abbrev pub with_side : Side → (memory : List ℕ) → World → World
 with_side side memory w =
     record w { host = byte_in memory; device = rung_with side.tails w.device; lanes = side.lanes; controllers = side.controllers }

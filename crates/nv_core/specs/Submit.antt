@@ -125,7 +125,7 @@ host_behind (Direct work) tags guest entry mediator lane at host =
 host_behind (Bounced work) tags guest entry mediator lane at host =
     host_handed tags (shares_of guest.namespace entry (Bounced work)) guest entry mediator lane at host
 
--- the tail of the submission ring after it, which the doorbell is rung with: an answer has no entry
+-- the tail of the submission ring after it, which is written to the doorbell: an answer has no entry
 abbrev pub tail_behind : Plan → (tags : List ℕ) → Namespace → (entry : List ℕ) → (at : ℕ) → ℕ
 tail_behind (Answer st) tags ns entry at = at
 tail_behind (NoData work) tags ns entry at = tail_handed tags (shares_of ns entry (NoData work)) at

@@ -1,4 +1,4 @@
-//! Where the rings of a lane stand, for whoever rings the physical controller's doorbells.
+//! Where the rings of a lane are, for whoever rings the physical controller's doorbells.
 
 ghost use Rattle.std.specs.Prelude.{◌≡◌, option_map, slice_get};
 

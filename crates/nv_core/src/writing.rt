@@ -19,7 +19,7 @@ use crate::area::TagPlace;
 use crate::physical_entry::{dwords, physical_entry};
 use nv_entry::{IoOpcode, Range};
 use nv_mem::MemoryCell;
-use nv_model::limits::RANGE_SIZE;
+use nv_model::limits::{MOST_ENTRIES, RANGE_SIZE};
 use nv_plan::{Plan, PlanKind};
 use nv_prp::Prps;
 
@@ -74,7 +74,7 @@ fn nothing() -> Prps
     Prps {
         prp1: 0,
         prp2: 0,
-        list: [0; 32],
+        list: [0; MOST_ENTRIES],
         used: 0,
     }
 }

@@ -15,7 +15,7 @@ up_with slots =
 abbrev pub up : List Event
 up = up_with 4
 
--- it stores bytes, or loads some; commands are stored from 3000h on, and the doorbell is rung for so many of them
+-- it stores bytes, or loads some; commands are stored from 3000h on, and the doorbell is written for so many of them
 abbrev pub stores : (addr : ℕ) → List ℕ → Event
 stores addr bytes = own (act.Store addr bytes)
 

@@ -11,6 +11,10 @@ begin_of rs place = unwrap_or (option_map (λ r. r.guest) (slice_get rs place)) 
 abbrev pub ranked_begin : List Region → List ℕ → ℕ → ℕ
 ranked_begin rs places rank = begin_of rs (slice_index places rank)
 
+-- the most regions whose order is kept
+abbrev pub ranks : ℕ
+ranks = 64
+
 -- as many places as there are regions name them all, the lowest guest address first
 pub record IsGuestOrder (rs : List Region) (places : List ℕ) : Type 0 where
   pub within : (rank : ℕ) → rank < length rs → slice_index places rank < length rs
@@ -24,7 +28,7 @@ pub record IsWindow (begins : ℕ → ℕ) (count addr rank size : ℕ) : Type 0
   pub begun : 0 < rank → begins rank ≤ addr
   pub later : (k : ℕ) → rank + size ≤ k → k < count → addr < begins k
 
--- a sound map, and its regions in order where there are no more than 64
+-- a sound map, and its regions in order where there are no more than are kept in order
 pub record IsKeptInOrder (m : Mapping) (places : List ℕ) : Type 0 where
   pub sound : IsSound m
-  pub ordered : length m.regions ≤ 64 → IsGuestOrder m.regions places
+  pub ordered : length m.regions ≤ ranks → IsGuestOrder m.regions places

@@ -3,7 +3,7 @@ ghost use Rattle.std.specs.Prelude.{◌≡◌, ℕ, ◌+◌, ◌<◌, ◌≤◌,
 ghost use Rattle.std.specs.List.{find};
 ghost use Rattle.std.specs.List.Sorted.{IsNonDecreasingBy};
 ghost use Rattle.nv_mem.specs.GuestMap.{IsApart, IsPaged, covers};
-ghost use Rattle.nv_mem.specs.GuestOrder.{IsGuestOrder, IsWindow, begin_of, ranked_begin};
+ghost use Rattle.nv_mem.specs.GuestOrder.{IsGuestOrder, IsWindow, begin_of, ranked_begin, ranks};
 
 use crate::region::Region;
 use std::array;
@@ -31,7 +31,7 @@ pub struct Ranked {
 impl GuestOrder {
     /// The order of these regions.
     pub fn of(regions: &[Region]) -> Self
-        ensures { length regions.now ≤ 64 → IsGuestOrder regions.now result.places }
+        ensures { length regions.now ≤ ranks → IsGuestOrder regions.now result.places }
     {
         let mut places = in_list_order();
         if regions.len() <= RANKS {
@@ -42,7 +42,7 @@ impl GuestOrder {
 
     /// The region that has a guest address.
     pub fn find(&self, regions: &[Region], addr: u64) -> Option<Ranked>
-        requires few { length regions.now ≤ 64 }
+        requires few { length regions.now ≤ ranks }
         requires ordered { IsGuestOrder regions.now self.now.places }
         requires paged { All IsPaged regions.now }
         requires apart { AllPairs IsApart regions.now }
@@ -59,7 +59,7 @@ impl GuestOrder {
     /// decide, and nothing is searched.
     #[inline(always)]
     pub fn find_at(&self, regions: &[Region], addr: u64, rank: usize) -> Option<Ranked>
-        requires few { length regions.now ≤ 64 }
+        requires few { length regions.now ≤ ranks }
         requires ordered { IsGuestOrder regions.now self.now.places }
         requires paged { All IsPaged regions.now }
         requires apart { AllPairs IsApart regions.now }
@@ -76,7 +76,7 @@ impl GuestOrder {
 
     // The region that has a guest address: it is the last that begins at or before it, or none.
     fn find_ranked(&self, regions: &[Region], addr: u64, rank: usize) -> Option<Ranked>
-        requires few { length regions.now ≤ 64 }
+        requires few { length regions.now ≤ ranks }
         requires ordered { IsGuestOrder regions.now self.now.places }
         requires paged { All IsPaged regions.now }
         requires apart { AllPairs IsApart regions.now }
@@ -100,7 +100,7 @@ impl GuestOrder {
     // results are counted: no branch is predicted.
     #[inline(never)]
     fn rank_of(&self, regions: &[Region], addr: u64) -> usize
-        requires few { length regions.now ≤ 64 }
+        requires few { length regions.now ≤ ranks }
         requires some { 0 < length regions.now }
         requires ordered { IsGuestOrder regions.now self.now.places }
         ensures { IsWindow (ranked_begin regions.now self.now.places) (length regions.now) addr result 1 }
@@ -125,7 +125,7 @@ impl GuestOrder {
 
     // Whether the region of that rank is the last that begins at or before the address.
     fn is_rank_of(&self, regions: &[Region], addr: u64, rank: usize) -> bool
-        requires few { length regions.now ≤ 64 }
+        requires few { length regions.now ≤ ranks }
         requires ordered { IsGuestOrder regions.now self.now.places }
         ensures { IsTrue result → IsWindow (ranked_begin regions.now self.now.places) (length regions.now) addr rank 1 }
     {
@@ -136,7 +136,7 @@ impl GuestOrder {
 
     // 1 where the region of a rank begins at or before the address, and 0 where it begins after it.
     fn begun(&self, regions: &[Region], rank: usize, addr: u64) -> usize
-        requires few { rank < 64 }
+        requires few { rank < ranks }
         requires within { slice_index self.now.places rank < length regions.now }
         ensures { result ≡ (if nat_le (ranked_begin regions.now self.now.places rank) addr then 1 else 0) }
     {
@@ -147,7 +147,7 @@ impl GuestOrder {
 
 // The places from 0 on.
 fn in_list_order() -> [u8; RANKS]
-    ensures { (k : ℕ) → k < 64 → slice_index result k ≡ k }
+    ensures { (k : ℕ) → k < ranks → slice_index result k ≡ k }
 {
     array::from_fn(|place| place as u8)
 }

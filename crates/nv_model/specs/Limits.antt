@@ -1,6 +1,6 @@
 -- The sizes and limits of the project, each under one name. Blocks of 512 bytes and pages of 4 KiB are the only formats (NVM Command Set
 -- Specification 1.0, "LBA Format"; Base Specification 2.0, "Controller Configuration", MPS); the others are the project's own (profile).
-use Rattle.std.specs.Prelude.{ℕ, ◌*◌}
+use Rattle.std.specs.Prelude.{ℕ, ◌+◌, ◌*◌, ◌/◌}
 use Rattle.nv_mem.specs.Page.{page_size}
 
 -- the bytes of a logical block
@@ -26,6 +26,14 @@ most_blocks = 256
 -- the most bytes of a transfer
 abbrev pub most_bytes : ℕ
 most_bytes = block * most_blocks
+
+-- the most entries of a PRP list: one for each page of a transfer but the first, in which it may begin anywhere
+abbrev pub most_entries : ℕ
+most_entries = most_bytes / page
+
+-- the most pages in which a transfer lies
+abbrev pub most_pages : ℕ
+most_pages = most_entries + 1
 
 -- the most descriptors of a list, where a guest has no limit of its own
 abbrev pub most_descriptors : ℕ

@@ -53,7 +53,7 @@ new_submission base size completes_to =
 abbrev pub new_completion : (base size : ℕ) → (vector : Option ℕ) → CompletionQueue
 new_completion base size vector = record { base = base; size = size; head = 0; tail = 0; phase = true; vector = vector }
 
--- how many entries are not taken, of those for which the doorbell was rung
+-- how many entries are not taken, of those for which the doorbell was written
 abbrev pub waiting : SubmissionQueue → ℕ
 waiting q = ahead q.size q.head q.tail
 

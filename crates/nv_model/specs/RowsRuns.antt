@@ -150,11 +150,11 @@ two_admin_slots =
 
 -- ---- I/O commands after the bring-up
 
--- the doorbell is rung for an I/O command
+-- the doorbell is written for an I/O command
 abbrev pub rung : List ℕ → List Step
 rung entry = bring_up ++ store 0x13000 entry ∷ ring 0x1008 1 ∷ []
 
--- the doorbell is rung for an I/O command, and these bytes are in memory
+-- the doorbell is written for an I/O command, and these bytes are in memory
 abbrev pub rung_with : (addr : ℕ) → (bytes entry : List ℕ) → List Step
 rung_with addr bytes entry = store addr bytes ∷ rung entry
 
@@ -162,7 +162,7 @@ rung_with addr bytes entry = store addr bytes ∷ rung entry
 abbrev pub flush_of : (cid : ℕ) → List ℕ
 flush_of cid = command (0x10000 * cid) 1 (prps 0 0) 0 0 0
 
--- the doorbell is rung for the first example, and it is taken, under the name 0
+-- the doorbell is written for the first example, and it is taken, under the name 0
 abbrev pub first_taken : List Step
 first_taken = bring_up ++ store 0x13000 first_example ∷ ring 0x1008 1 ∷ TakeStep 1 0 ∷ []
 
@@ -190,7 +190,7 @@ three_ended =
 
 -- ---- admin commands after the bring-up
 
--- the doorbell is rung for an admin command, and it is done as the third
+-- the doorbell is written for an admin command, and it is done as the third
 abbrev pub done_third : List ℕ → List Step
 done_third entry = bring_up ++ store 0x10080 entry ∷ ring 0x1000 3 ∷ AdminQueueStep ∷ []
 

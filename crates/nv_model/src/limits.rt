@@ -29,6 +29,13 @@ pub const MOST_COMMAND_BLOCKS: u32 = 256;
 /// The most bytes of a command's transfer.
 pub const MOST_COMMAND_BYTES: u64 = BLOCK_SIZE as u64 * MOST_COMMAND_BLOCKS as u64;
 
+/// The most entries of a PRP list: one for each page of a transfer but the first, in which it may begin anywhere (Base, "Physical Region Page Entry and
+/// List").
+pub const MOST_ENTRIES: usize = (MOST_COMMAND_BYTES / PAGE_SIZE) as usize;
+
+/// The most pages in which a command's transfer lies.
+pub const MOST_PAGES: usize = MOST_ENTRIES + 1;
+
 /// The most descriptors of a list, the command's own among them (profile).
 pub const MOST_DESCRIPTORS: u32 = 1024;
 

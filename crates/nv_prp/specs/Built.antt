@@ -2,7 +2,7 @@
 -- page of its own, from the first slot on (profile: PRP lets it begin at other slots, too).
 use Rattle.std.specs.Prelude.{ℕ, ◌+◌, ◌-◌, ◌%◌, Bool, ◌==◌, List, [], ◌∷◌, ◌++◌, length, drop, replicate, slice_index}
 use Rattle.std.specs.List.{filter}
-use Rattle.nv_model.specs.Limits.{page}
+use Rattle.nv_model.specs.Limits.{most_entries, page}
 use Rattle.nv_prp.specs.declared.prps.Prps.{Prps}
 
 -- ---- what names a transfer
@@ -26,9 +26,9 @@ abbrev pub listed : List ℕ → List ℕ
 listed (entry ∷ next ∷ entries) = entry ∷ next ∷ entries
 listed _ = []
 
--- 32 numbers: these, and then zeros
+-- the entries of the longest list: these numbers, and then zeros
 abbrev pub padded : List ℕ → List ℕ
-padded numbers = numbers ++ replicate (32 - length numbers) 0
+padded numbers = numbers ++ replicate (most_entries - length numbers) 0
 
 -- what names a transfer that begins at `first` and has these page entries
 abbrev pub prps_of : (list_page first : ℕ) → List ℕ → Prps

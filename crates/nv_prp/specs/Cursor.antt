@@ -5,7 +5,7 @@ use Rattle.nv_mem.specs.declared.piece.Piece.{Piece}
 use Rattle.nv_mem.specs.declared.region.Region.{Region}
 use Rattle.nv_model.specs.Dialogue.{Dialogue}
 use Rattle.nv_model.specs.Prp.{entry_fault, read_entries, read_page}
-use Rattle.nv_model.specs.Limits.{page}
+use Rattle.nv_model.specs.Limits.{most_pages, page}
 use Rattle.nv_model.specs.Reading.{Reading, unless_faulty}
 use Rattle.nv_prp.specs.Parse.{Parse, slots_left}
 use Rattle.nv_prp.specs.declared.cursor.Cursor.{Cursor}
@@ -47,7 +47,7 @@ pub record IsInRange (c : Cursor) (runs : List Piece) : Type 0 where
   pub slot : 0 < c.pages → 0 < c.slots
   pub bytes : c.bytes ≤ page * c.pages
   pub pages : page * c.pages < c.bytes + page
-  pub room : length runs + c.pages ≤ 33
+  pub room : length runs + c.pages ≤ most_pages
 
 -- the parse at that position
 abbrev pub parse_at : List Region → Cursor → List Piece → Parse

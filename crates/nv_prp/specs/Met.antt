@@ -2,6 +2,7 @@
 -- (only the first entry may have an offset, so each later one is a page's start).
 use Rattle.std.specs.Prelude.{◌≡◌, ℕ, ◌-◌, ◌≤◌, List, [], ◌∷◌, ◌++◌, drop, replicate, Option, Some, None, unwrap_or}
 use Rattle.std.specs.List.{filter}
+use Rattle.nv_model.specs.Limits.{most_entries}
 use Rattle.nv_prp.specs.Built.{prps_of, starts_page}
 use Rattle.nv_prp.specs.declared.prps.Prps.{Prps}
 
@@ -32,7 +33,7 @@ met_more m addresses = met_by m.first m.entries addresses
 abbrev pub prps_met : (list_page : ℕ) → Met → Prps
 prps_met list_page m = prps_of list_page (unwrap_or m.first 0) m.entries
 
--- entries are at the front of an array of 32 numbers, followed by zeros
+-- entries are at the front of an array for the longest list, followed by zeros
 pub record IsFilled (used : ℕ) (list : List ℕ) : Type 0 where
-  pub count : used ≤ 32
-  pub zeros : drop used list ≡ replicate (32 - used) 0
+  pub count : used ≤ most_entries
+  pub zeros : drop used list ≡ replicate (most_entries - used) 0

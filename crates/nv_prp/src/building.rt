@@ -5,7 +5,7 @@ ghost use Rattle.std.specs.List.{range_with_len};
 ghost use Rattle.nv_mem.specs.GuestMap.{everywhere, mapped};
 ghost use Rattle.nv_mem.specs.Places.{addresses, total_len};
 ghost use Rattle.nv_model.specs.Laws.{IsMappedPiece};
-ghost use Rattle.nv_model.specs.Limits.{most_bytes, page};
+ghost use Rattle.nv_model.specs.Limits.{most_bytes, most_entries, page};
 ghost use Rattle.nv_prp.specs.Built.{built};
 ghost use Rattle.nv_prp.specs.Fits.{host_addresses, hosts_of, places_fit};
 ghost use Rattle.nv_prp.specs.Met.{met_more};
@@ -51,7 +51,7 @@ pub fn build_run(addr: u64, len: u64, list_page: u64) -> Prps
 fn add_run(map: &GuestMap, addr: u64, len: u64, met: &mut Met)
     requires mapped { everywhere (mapped map.now.regions) addr len ≡ true }
     requires most { len ≤ most_bytes }
-    requires room { length (met_more met.old (hosts_of map.now.regions (addresses addr len))).entries ≤ 32 }
+    requires room { length (met_more met.old (hosts_of map.now.regions (addresses addr len))).entries ≤ most_entries }
     ensures { met.new ≡ met_more met.old (hosts_of map.now.regions (addresses addr len)) }
 {
     // With the length of the host comes what is known of every map.

@@ -3,7 +3,7 @@
 ghost use Rattle.std.specs.Prelude.{◌≡◌, None, Some, ◌+◌, ◌-◌, ◌*◌, ◌/◌, ◌%◌, ◌<◌, ◌≤◌, ◌^◌, [], ℕ, List, true, false, length};
 ghost use Rattle.nv_mem.specs.GuestMap.{mapped};
 ghost use Rattle.nv_mem.specs.declared.piece.Piece.{Piece};
-ghost use Rattle.nv_model.specs.Limits.{most_bytes, page};
+ghost use Rattle.nv_model.specs.Limits.{most_bytes, most_entries, page};
 ghost use Rattle.nv_model.specs.Prp.{entry_fault, pages_of, read_prp, read_prp2};
 ghost use Rattle.nv_model.specs.Transcript.{fed};
 ghost use Rattle.nv_prp.specs.Cursor.{ahead, is_asking, is_at_pointer, reading_from, read_entry, read_pointer, read_slot, IsInRange};
@@ -91,7 +91,7 @@ impl Cursor {
     // At the list of `pages` entries to which PRP2 points.
     fn at_list(map: &GuestMap, prp2: u64, pages: u32, bytes: u64) -> Self
         requires pages { 1 < pages }
-        requires most { pages ≤ 32 }
+        requires most { pages ≤ most_entries }
         requires bytes { bytes ≤ page * pages }
         requires full { page * pages < bytes + page }
         ensures dialogue { (runs : List Piece) → reading_from (mapped map.now.regions) result runs

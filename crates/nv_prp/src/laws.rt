@@ -7,7 +7,7 @@ ghost use Rattle.nv_mem.specs.declared.piece.Piece.{Piece};
 ghost use Rattle.nv_mem.specs.declared.region.Region.{Region};
 ghost use Rattle.nv_model.specs.Dialogue.{in_memory};
 ghost use Rattle.nv_model.specs.Laws.{IsMappedPiece};
-ghost use Rattle.nv_model.specs.Limits.{most_bytes, page};
+ghost use Rattle.nv_model.specs.Limits.{most_bytes, most_entries, page};
 ghost use Rattle.nv_model.specs.Memory.{bytes_from};
 ghost use Rattle.nv_model.specs.Transcript.{fed};
 ghost use Rattle.nv_model.specs.Want.{want_of};
@@ -27,7 +27,7 @@ pub fn feeding_what_a_memory_shows_keeps_the_end()
 /// reads it. The numbers after the list are zeros.
 pub fn built_prps_spell_the_addresses()
     ensures zeros { (list_page : ℕ) (addresses : List ℕ) → let p = built list_page addresses in
-        p.list ≡ take p.used p.list ++ replicate (32 - p.used) 0 }
+        p.list ≡ take p.used p.list ++ replicate (most_entries - p.used) 0 }
     ensures spells { (memory : ℕ → ℕ) (list_page : ℕ) (addresses : List ℕ) →
         fit_prp addresses ≡ true → length addresses ≤ most_bytes → list_page % page ≡ 0 →
         HoldsList memory list_page (built list_page addresses) →

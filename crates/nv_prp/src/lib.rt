@@ -14,8 +14,8 @@
 //! next list page. Each slot is checked for its offset and then for the bytes that it names, in the order in which the transfer meets them, and the
 //! first fault decides. That order and the status of bytes outside the guest's memory are this project's own choice (profile).
 //!
-//! A transfer has at most 131,072 bytes, so at most 33 pages. The runs that were read are stored in an array of that size, and the entries of a
-//! list that is built in one of 32. So only [`PrpParse::places`] takes memory. It is called with ample memory in tests that compare its answer.
+//! A transfer has at most 131,072 bytes, so there is a number of pages in which it lies at most. The runs that were read are stored in an array
+//! of that size, and the entries of a list that is built in one with an entry less. So only [`PrpParse::places`] takes memory. It is called with ample memory in tests that compare its answer.
 //!
 //! What [`build`] makes names its addresses in any memory that has the list at the place that it was built for. A parse works over a memory and
 //! over a transcript of earlier reads, as in `nv_sgl`. Reading and building are one crate because what is built is judged by the definition by

@@ -2,20 +2,18 @@
 
 ghost use Rattle.std.specs.Prelude.{◌≡◌, ◌+◌, ◌<◌, ◌≤◌, ◌^◌, ◌++◌, [], ◌∷◌, length};
 ghost use Rattle.std.specs.List.{range_with_len};
-ghost use Rattle.nv_model.specs.Limits.{most_bytes};
+ghost use Rattle.nv_model.specs.Limits.{most_bytes, most_entries};
 
 use crate::prps::Prps;
 use nv_mem::PAGE_SIZE;
+use nv_model::limits::MOST_ENTRIES;
 use std::marker::Model;
-
-/// How many entries the list of a transfer has at most.
-const MOST: usize = 32;
 
 /// What was met of a transfer's addresses while it is built: the first, and the page starts after it.
 #[derive(Drop)]
 pub struct Met {
     first: Option<u64>,
-    list: [u64; MOST],
+    list: [u64; MOST_ENTRIES],
     used: usize,
 }
 
@@ -39,7 +37,7 @@ impl Met {
     {
         Met {
             first: None,
-            list: [0; MOST],
+            list: [0; MOST_ENTRIES],
             used: 0,
         }
     }
@@ -49,7 +47,7 @@ impl Met {
         requires some { 0 < len }
         requires most { len ≤ most_bytes }
         requires inside { from + len < 2 ^ 64 }
-        requires room { length (met_more self.old (range_with_len from len)).entries ≤ 32 }
+        requires room { length (met_more self.old (range_with_len from len)).entries ≤ most_entries }
         ensures { self.new ≡ met_more self.old (range_with_len from len) }
     {
         match self.first {
@@ -65,7 +63,7 @@ impl Met {
     fn add_later(&mut self, from: u64, len: u64)
         requires most { len ≤ most_bytes }
         requires inside { from + len < 2 ^ 64 }
-        requires room { length (met_later self.old (range_with_len from len)).entries ≤ 32 }
+        requires room { length (met_later self.old (range_with_len from len)).entries ≤ most_entries }
         ensures { self.new ≡ met_later self.old (range_with_len from len) }
     {
         let mut skipped = (PAGE_SIZE - from % PAGE_SIZE) % PAGE_SIZE;
@@ -77,7 +75,7 @@ impl Met {
 
     // Adds an entry.
     fn push(&mut self, entry: u64)
-        requires { length self.old.entries < 32 }
+        requires { length self.old.entries < most_entries }
         ensures { self.new ≡ record self.old { entries = self.old.entries ++ entry ∷ [] } }
     {
         self.list[self.used] = entry;
@@ -93,13 +91,13 @@ impl Met {
             0 => Prps {
                 prp1,
                 prp2: 0,
-                list: [0; MOST],
+                list: [0; MOST_ENTRIES],
                 used: 0,
             },
             1 => Prps {
                 prp1,
                 prp2: self.list[0],
-                list: [0; MOST],
+                list: [0; MOST_ENTRIES],
                 used: 0,
             },
             used => Prps {

@@ -1,31 +1,31 @@
 //! The runs that were read of region pages, in an array that is large enough for every transfer.
 
 ghost use Rattle.std.specs.Prelude.{◌≡◌, ◌<◌, ◌≤◌, ◌++◌, [], ◌∷◌, length, OnOk};
+ghost use Rattle.nv_model.specs.Limits.{most_pages};
 
 use nv_mem::{NoMemory, Piece, Places};
+use nv_model::limits::MOST_PAGES;
 use std::marker::Model;
-
-/// How many pages a transfer lies in at most.
-const MOST: usize = 33;
 
 /// The runs of a transfer that were read, in order.
 ///
 /// A contract sees it as their list.
 #[derive(Drop)]
 pub struct Runs {
-    runs: [Piece; MOST],
+    runs: [Piece; MOST_PAGES],
     count: usize,
 }
 
 impl Model for Runs {
     ghost use Rattle.std.specs.Prelude.{List, take, ◌≤◌};
     ghost use Rattle.nv_mem.specs.declared.piece.Piece.{Piece};
+    ghost use Rattle.nv_model.specs.Limits.{most_pages};
 
     ghost Value = { List Piece };
 
     ghost view = { λ r. take r.count r.runs };
 
-    ghost invariant = { λ r. r.count ≤ 33 };
+    ghost invariant = { λ r. r.count ≤ most_pages };
 }
 
 impl Runs {
@@ -34,14 +34,14 @@ impl Runs {
         ensures { result ≡ [] }
     {
         Runs {
-            runs: [Piece::Bucket { len: 0 }; MOST],
+            runs: [Piece::Bucket { len: 0 }; MOST_PAGES],
             count: 0,
         }
     }
 
     /// Adds a run after the others.
     pub fn push(&mut self, run: Piece)
-        requires { length self.old < 33 }
+        requires { length self.old < most_pages }
         ensures { self.new ≡ self.old ++ run ∷ [] }
     {
         self.runs[self.count] = run;

@@ -17,15 +17,21 @@ use nv_model::limits::MOST_DESCRIPTORS;
 use std::alloc::{Allocator, Global};
 use std::marker::Model;
 
-/// The reading of a list, part by part. It never reads the guest's memory itself: it says which bytes it wants, and is fed them.
+/// What is kept of a list: all of a parse but the guest's map.
 #[derive(Drop)]
-pub struct SglParse<'a, A: Allocator + Clone> {
-    map: &'a GuestMap,
+struct Kept<A: Allocator + Clone> {
     dest: bool,
     need: u64,
     limit: u32,
     cursor: Cursor,
     chain: Chain<A>,
+}
+
+/// The reading of a list, part by part. It never reads the guest's memory itself: it says which bytes it wants, and is fed them.
+#[derive(Drop)]
+pub struct SglParse<'a, A: Allocator + Clone> {
+    map: &'a GuestMap,
+    kept: Kept<A>,
 }
 
 impl<'a, A: Allocator + Clone> Model for SglParse<'a, A> {
@@ -35,9 +41,9 @@ impl<'a, A: Allocator + Clone> Model for SglParse<'a, A> {
 
     ghost use Rattle.nv_sgl.specs.Cursor.{IsParse, parse_at};
 
-    ghost view = { λ p. parse_at p.map.now.regions p.dest p.need p.cursor p.chain };
+    ghost view = { λ p. parse_at p.map.now.regions p.kept.dest p.kept.need p.kept.cursor p.kept.chain };
 
-    ghost invariant = { λ p. IsParse p.dest p.cursor p.chain };
+    ghost invariant = { λ p. IsParse p.kept.dest p.kept.cursor p.kept.chain };
 }
 
 impl<'a, A: Allocator + Clone> SglParse<'a, A> {
@@ -86,14 +92,14 @@ impl<'a, A: Allocator + Clone> SglParse<'a, A> {
     {
         let mut cursor = Cursor::at_own(limit);
         cursor.look_at(map, dest, &first);
-        Ok(SglParse {
-            map,
+        let kept = Kept {
             dest,
             need,
             limit,
             cursor,
             chain: Chain::own(heap, first)?,
-        })
+        };
+        Ok(SglParse { map, kept })
     }
 
     /// A copy, that keeps what it reads in the same heap. Each of the two is fed by itself.
@@ -104,13 +110,16 @@ impl<'a, A: Allocator + Clone> SglParse<'a, A> {
     pub fn try_clone(&self) -> Result<Self, NoMemory>
         ensures { IfOk result (λ copy. copy ≡ self.now) }
     {
+        let kept = Kept {
+            dest: self.kept.dest,
+            need: self.kept.need,
+            limit: self.kept.limit,
+            cursor: self.kept.cursor,
+            chain: self.kept.chain.try_clone()?,
+        };
         Ok(SglParse {
             map: self.map,
-            dest: self.dest,
-            need: self.need,
-            limit: self.limit,
-            cursor: self.cursor,
-            chain: self.chain.try_clone()?,
+            kept,
         })
     }
 
@@ -120,7 +129,7 @@ impl<'a, A: Allocator + Clone> SglParse<'a, A> {
     pub fn wants(&self) -> Want
         ensures { result ≡ want_of (dialogue_of self.now) }
     {
-        self.cursor.wants(self.need)
+        self.kept.cursor.wants(self.kept.need)
     }
 
     /// Reads on with the bytes that were wanted.
@@ -135,7 +144,13 @@ impl<'a, A: Allocator + Clone> SglParse<'a, A> {
         ensures chain { OnOk result (self.new.chain ≡ grown self.old.chain (units_fed (dialogue_of self.old) bytes.now)) }
         ensures err { OnErr result (self.new ≡ self.old) }
     {
-        self.cursor = self.chain.read(self.map, self.dest, self.cursor, bytes)?;
+        let Kept {
+            dest,
+            cursor,
+            chain,
+            ..
+        } = &mut self.kept;
+        *cursor = chain.read(self.map, *dest, *cursor, bytes)?;
         Ok(())
     }
 
@@ -143,7 +158,7 @@ impl<'a, A: Allocator + Clone> SglParse<'a, A> {
     pub fn chain(&self) -> &Chain<A>
         ensures { result.now ≡ self.now.chain }
     {
-        &self.chain
+        &self.kept.chain
     }
 
     /// Where the bytes of the transfer lie, once the parse is done.
@@ -156,8 +171,15 @@ impl<'a, A: Allocator + Clone> SglParse<'a, A> {
         ensures { IfOk result (λ places. dialogue_of self.now ≡ End (Spells places)) }
     {
         let mut places = Places::new(alloc);
-        places.reserve(self.limit.saturating_sub(self.cursor.budget) as usize)?;
-        self.chain.push_pieces(self.dest, &mut places)?;
+        let Kept {
+            dest,
+            limit,
+            cursor,
+            chain,
+            ..
+        } = &self.kept;
+        places.reserve(limit.saturating_sub(cursor.budget) as usize)?;
+        chain.push_pieces(*dest, &mut places)?;
         Ok(places)
     }
 }
@@ -167,11 +189,7 @@ impl<'a, A: Allocator + Clone> SglParse<'a, A> {
 /// A contract sees it as a parse in a map with no regions.
 #[derive(Drop)]
 pub struct SglRest<A: Allocator + Clone> {
-    dest: bool,
-    need: u64,
-    limit: u32,
-    cursor: Cursor,
-    chain: Chain<A>,
+    kept: Kept<A>,
 }
 
 impl<A: Allocator + Clone> Model for SglRest<A> {
@@ -182,9 +200,9 @@ impl<A: Allocator + Clone> Model for SglRest<A> {
 
     ghost use Rattle.nv_sgl.specs.Cursor.{IsParse, parse_at};
 
-    ghost view = { λ r. parse_at [] r.dest r.need r.cursor r.chain };
+    ghost view = { λ r. parse_at [] r.kept.dest r.kept.need r.kept.cursor r.kept.chain };
 
-    ghost invariant = { λ r. IsParse r.dest r.cursor r.chain };
+    ghost invariant = { λ r. IsParse r.kept.dest r.kept.cursor r.kept.chain };
 }
 
 impl<'a, A: Allocator + Clone> SglParse<'a, A> {
@@ -193,42 +211,15 @@ impl<'a, A: Allocator + Clone> SglParse<'a, A> {
         ensures rest { result.0 ≡ record self.entry { regions = [] } }
         ensures map { result.1.now.regions ≡ self.entry.regions }
     {
-        let SglParse {
-            map,
-            dest,
-            need,
-            limit,
-            cursor,
-            chain,
-        } = self;
-        let rest = SglRest {
-            dest,
-            need,
-            limit,
-            cursor,
-            chain,
-        };
-        (rest, map)
+        let SglParse { map, kept } = self;
+        (SglRest { kept }, map)
     }
 
     /// The parse that was put aside, to go on with this map.
     pub fn resume(rest: SglRest<A>, map: &'a GuestMap) -> Self
         ensures { result ≡ record rest { regions = map.now.regions } }
     {
-        let SglRest {
-            dest,
-            need,
-            limit,
-            cursor,
-            chain,
-        } = rest;
-        SglParse {
-            map,
-            dest,
-            need,
-            limit,
-            cursor,
-            chain,
-        }
+        let SglRest { kept } = rest;
+        SglParse { map, kept }
     }
 }

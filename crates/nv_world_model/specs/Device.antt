@@ -33,7 +33,7 @@ pub record Held : Type 0 where
   pub left : List ℕ
   pub differed : Bool
 
--- a lane: head and tail of its submission ring, the tail as it was rung; the slot of its completion ring that is written next, and the phase tag of
+-- a lane: head and tail of its submission ring, the tail as the doorbell has it; the slot of its completion ring that is written next, and the phase tag of
 -- this pass; and the commands in the device, by identifier
 pub record DeviceLane : Type 0 where
   pub head : ℕ

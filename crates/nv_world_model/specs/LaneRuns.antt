@@ -19,7 +19,7 @@ use Rattle.nv_world_model.specs.Device.{DeviceLane, Held, completion_posted, ent
 
 -- ---- what happens on a lane
 
--- the doorbell of the submission ring is rung, with entries up to the slot before the tail; the device takes the front entry, moves a unit, or
+-- the doorbell of the submission ring is written, with entries up to the slot before the tail; the device takes the front entry, moves a unit, or
 -- posts the completion of a command; the mediator reads the next completion
 pub data LaneEvent : Type 0 where
   Rings : (tail : ℕ) → LaneEvent
@@ -28,7 +28,7 @@ pub data LaneEvent : Type 0 where
   Posts : (slot : ℕ) → LaneEvent
   Reads : LaneEvent
 
--- a lane, and the slot of its completion ring that the mediator reads next; and how many entries were rung and taken, and how many completions
+-- a lane, and the slot of its completion ring that the mediator reads next; and how many entries were submitted and taken, and how many completions
 -- posted and read, since the start
 pub record LaneRun : Type 0 where
   pub device : DeviceLane
@@ -93,7 +93,7 @@ run_behind (e ∷ events) r = run_behind events (lane_behind e r)
 
 -- ---- what is asked of it
 
--- a tail is rung within the tags in flight, which are at most as many as there are tags; and an entry that is taken has an identifier that no
+-- a tail is written within the tags in flight, which are at most as many as there are tags; and an entry that is taken has an identifier that no
 -- command in the device has
 abbrev pub IsWithinTags : LaneEvent → LaneRun → Type 0
 IsWithinTags (Rings tail) r = (tail < ring_size) × (in_flight r + newly_rung tail r.device ≤ tag_count)
@@ -109,7 +109,7 @@ abbrev pub AreWithinTags : List LaneEvent → LaneRun → Type 0
 AreWithinTags [] r = ⊤
 AreWithinTags (e ∷ events) r = IsWithinTags e r × AreWithinTags events (lane_behind e r)
 
--- neither ring has been overrun: the submission ring holds as many entries as were rung and not taken, the completion ring as many completions as
+-- neither ring has been overrun: the submission ring holds as many entries as were submitted and not taken, the completion ring as many completions as
 -- were posted and not read, and each number is less than the ring has slots; all of them and the commands in the device are the tags in flight; and
 -- the phase tag is that of the pass
 pub record IsNotOverrun (r : LaneRun) : Type 0 where

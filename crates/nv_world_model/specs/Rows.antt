@@ -30,7 +30,7 @@ abbrev pub set_up : Geometry
 set_up =
     record { mediator = 0x400000; disk_blocks = 4096; guests = guest_at 0x100000 1000 ∷ guest_at 0x200000 2000 ∷ [] }
 
--- an enabled controller with queue pair 1: so many completion slots at 12000h, and 16 submission slots at 13000h, of which so many are rung
+-- an enabled controller with queue pair 1: so many completion slots at 12000h, and 16 submission slots at 13000h, of which so many are submitted
 abbrev pub controller_with : (slots rung : ℕ) → Controller
 controller_with slots rung =
     record opening {
@@ -44,7 +44,7 @@ controller_with slots rung =
 abbrev pub numbered : ℕ → ℕ → ℕ
 numbered block offset = block % 256
 
--- a world of one lane with this memory, on which so many entries of each guest are rung
+-- a world of one lane with this memory, on which so many entries of each guest are submitted
 abbrev pub world_with : (host : ℕ → ℕ) → (slots first second : ℕ) → World
 world_with host slots first second =
     record {
@@ -60,7 +60,7 @@ world_with host slots first second =
 abbrev pub holding : (addr : ℕ) → List ℕ → ℕ → ℕ
 holding addr bytes = stored (λ _. 0) addr bytes
 
--- a world in which the first guest has rung the doorbell for this one command
+-- a world in which the first guest has written the doorbell for this one command
 abbrev pub one_command : (entry : List ℕ) → World
 one_command entry = world_with (holding 0x113000 entry) 16 1 0
 
@@ -116,7 +116,7 @@ handed_on w =
 
 -- ---- two guests
 
--- a world in which both guests have rung the doorbell for the first example
+-- a world in which both guests have written the doorbell for the first example
 abbrev pub two_commands : World
 two_commands = world_with (stored (holding 0x113000 first_example) 0x213000 first_example) 16 1 1
 

@@ -27,7 +27,7 @@ joined_guest = record (guest_at 0x100000 1000) { namespace = joined }
 abbrev pub set_up : Geometry
 set_up = record { mediator = 0x400000; disk_blocks = 4096; guests = joined_guest ∷ guest_at 0x200000 2000 ∷ [] }
 
--- a world of one lane with these tags and this memory, on which so many entries of each guest are rung
+-- a world of one lane with these tags and this memory, on which so many entries of each guest are submitted
 abbrev pub world_of : (tags : List Tag) → (host : ℕ → ℕ) → (first second : ℕ) → World
 world_of tags host first second =
     record {
@@ -39,7 +39,7 @@ world_of tags host first second =
       controllers = controller_with 16 first ∷ controller_with 16 second ∷ [];
     }
 
--- a world in which the first guest has rung the doorbell for this one command
+-- a world in which the first guest has written the doorbell for this one command
 abbrev pub one_command : (entry : List ℕ) → World
 one_command entry = world_of (replicate tag_count Free) (holding 0x113000 entry) 1 0
 
@@ -47,7 +47,7 @@ one_command entry = world_of (replicate tag_count Free) (holding 0x113000 entry)
 abbrev pub one_command_on : (addr : ℕ) → List ℕ → (entry : List ℕ) → World
 one_command_on addr bytes entry = world_of (replicate tag_count Free) (stored (holding 0x113000 entry) (0x100000 + addr) bytes) 1 0
 
--- the first guest has rung the doorbell for one command, and the second for another
+-- the first guest has written the doorbell for one command, and the second for another
 abbrev pub two_commands : (first second : List ℕ) → World
 two_commands first second = world_of (replicate tag_count Free) (stored (holding 0x113000 first) 0x213000 second) 1 1
 
@@ -55,7 +55,7 @@ two_commands first second = world_of (replicate tag_count Free) (stored (holding
 abbrev pub others : (tag : ℕ) → Tag
 others tag = Taken (record { guest = 1; queue = 1; entry = replicate 64 0; leader = tag }) []
 
--- a world in which these tags are the second guest's, and the first guest has rung the doorbell for this command
+-- a world in which these tags are the second guest's, and the first guest has written the doorbell for this command
 abbrev pub among_others : List Tag → (entry : List ℕ) → World
 among_others tags entry = world_of tags (holding 0x113000 entry) 1 0
 

@@ -41,7 +41,7 @@ small_second = small_guest 0x2000 4
 abbrev pub small : Geometry
 small = record { mediator = 0x10000; disk_blocks = 8; guests = small_first ∷ small_second ∷ [] }
 
--- an enabled controller with queue pair 1 and the admin queues, of two slots each: submission slots at 40h and 100h, of which one is rung, and
+-- an enabled controller with queue pair 1 and the admin queues, of two slots each: submission slots at 40h and 100h, of which one is submitted, and
 -- completion slots at c0h and 180h
 abbrev pub small_controller : Controller
 small_controller =
@@ -61,7 +61,7 @@ clear_one = command (dword0 write_zeroes 0 0) 1 (replicate 16 0) 0 0 0
 abbrev pub abort : List ℕ
 abort = admin_entry 0x08 3 0 0 0 0 0
 
--- a world of one lane of two tags, in which each guest has rung the doorbell for a Write Zeroes, and the first for an Abort, too
+-- a world of one lane of two tags, in which each guest has written the doorbell for a Write Zeroes, and the first for an Abort, too
 abbrev pub small_world : World
 small_world =
     record {

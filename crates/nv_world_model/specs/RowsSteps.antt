@@ -59,7 +59,7 @@ private_bytes addr len p = bytes_from p.memory addr len
 abbrev pub keeps_to_it : List Event → World → Bool
 keeps_to_it events w = is_disciplined set_up 0 first_guest (logged events w) w
 
--- a world in which the first guest has rung the doorbell for these two commands
+-- a world in which the first guest has written the doorbell for these two commands
 abbrev pub two_rung : (first second : List ℕ) → World
 two_rung first second = world_with (holding 0x113000 (first ++ second)) 16 2 0
 
@@ -80,7 +80,7 @@ writes_by_one_list =
 abbrev pub awaited_behind : List Event → World → List ℕ → List Bool
 awaited_behind events w addrs = behind events w (λ z. map (is_awaited 0 first_guest z) addrs)
 
--- the first guest's private controller as it is in a world in which it has rung the doorbell for one command and none is taken
+-- the first guest's private controller as it is in a world in which it has written the doorbell for one command and none is taken
 abbrev pub first_seat : World → Private
 first_seat w = seat set_up (record { number = 0; given = first_guest; controller = controller_with 16 1 }) w
 

@@ -57,7 +57,7 @@ three_ended =
 abbrev pub head_rung : (head : ℕ) → Event
 head_rung head = event.Guest 0 (act.Doorbell 0x100c head)
 
--- a submission queue of 128 slots of which 65 are rung, the last of them with the first example
+-- a submission queue of 128 slots of which 65 are submitted, the last of them with the first example
 abbrev pub many_rung : World
 many_rung =
     record (world_with (holding 0x114000 first_example) 16 0 0) {
@@ -107,7 +107,7 @@ brought_up =
 abbrev pub at_start : World
 at_start = opening_world (λ _. 0) (λ _ _. 0) set_up 1
 
--- the doorbell for the first example is rung, the example is taken, and then the deletion of its submission queue is requested
+-- the doorbell for the first example is written, the example is taken, and then the deletion of its submission queue is requested
 abbrev pub deletion_rung : List Event
 deletion_rung =
     bring_up ++ event.Guest 0 (act.Store 0x13000 first_example) ∷ event.Guest 0 (act.Doorbell 0x1008 1) ∷ event.Take 0 1 0
@@ -120,7 +120,7 @@ deletion_due =
 
 -- ---- lanes
 
--- a world of two lanes in which the first guest has rung the doorbell for this one command
+-- a world of two lanes in which the first guest has written the doorbell for this one command
 abbrev pub two_lanes : (entry : List ℕ) → World
 two_lanes entry =
     record (world_with (holding 0x113000 entry) 16 1 0) {

@@ -153,7 +153,7 @@ ended_at_once lane [] command st w = w
 ended_at_once lane (tag ∷ tags) command st w =
     with_tags lane tags (Ended command (done_with Success) None) (with_tag lane tag (Ended command st None) w)
 
--- list, source or ranges, and physical entry of a share are written, and the doorbell is rung
+-- list, source or ranges, and physical entry of a share are written, and the doorbell is written
 unfoldable pub submitted : (mediator lane tag : ℕ) → Command → Share → Owner → DeviceLane → World → World
 submitted mediator lane tag command share o d w =
     with_tag lane tag (Flying command share (Queued d.tail))

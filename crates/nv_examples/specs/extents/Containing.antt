@@ -35,7 +35,7 @@ IsFirstGuests done = IsContained done set_up (own (act.Store 0x3000 (7 ∷ [])))
 
 -- ---- a unit of a part
 
--- the first guest's controller: its queue pair 1 has two slots each, at 3000h and 2000h, and the doorbell is rung for one submission
+-- the first guest's controller: its queue pair 1 has two slots each, at 3000h and 2000h, and the doorbell is written for one submission
 abbrev pub one_rung : Controller
 one_rung =
     record opening {
@@ -45,7 +45,7 @@ one_rung =
       completion_queues = None ∷ Some (new_completion 0x2000 2 None) ∷ replicate 7 None;
     }
 
--- a world of one lane of three tags, of which the neighbour has the last, where the first guest has rung the doorbell for a Write Zeroes of its
+-- a world of one lane of three tags, of which the neighbour has the last, where the first guest has written the doorbell for a Write Zeroes of its
 -- blocks 1 to 3
 abbrev pub rung : World
 rung =

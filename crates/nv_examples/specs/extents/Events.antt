@@ -15,7 +15,7 @@ up_with guest slots =
 abbrev pub up : (guest : ℕ) → List Event
 up guest = up_with guest 4
 
--- the first guest stores bytes, or loads some; commands are stored from 3000h on, and the doorbell is rung for so many of them
+-- the first guest stores bytes, or loads some; commands are stored from 3000h on, and the doorbell is written for so many of them
 abbrev pub stores : (addr : ℕ) → List ℕ → Event
 stores addr bytes = own (act.Store addr bytes)
 

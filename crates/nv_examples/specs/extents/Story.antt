@@ -40,7 +40,7 @@ neighbour_comes =
 
 -- ---- a Write is two physical commands
 
--- of two blocks each, whose moves are interleaved; the neighbour's Write Zeroes, whose entry it writes once the doorbell was rung, is three, in
+-- of two blocks each, whose moves are interleaved; the neighbour's Write Zeroes, whose entry it writes once the doorbell was written, is three, in
 -- tags 2 to 4. The second part of the Write ends first, and by none of its tags is the Write completed before the first part has ended
 abbrev pub write_of_all : List Logged
 write_of_all =

@@ -1,7 +1,7 @@
 use Rattle.std.proofs.Common.{◌≡◌, ◌≤◌, List, None, length, subst}
 use Rattle.nv_mem.specs.declared.region.Region.{Region}
 use Rattle.nv_mem.specs.MapRefusal.{refusal_of}
-use Rattle.nv_mem.specs.GuestOrder.{IsGuestOrder}
+use Rattle.nv_mem.specs.GuestOrder.{IsGuestOrder, ranks}
 use Rattle.nv_mem.proofs.Soundness.{IsSound-tested}
 use Rattle.nv_mem.proofs.guest_map.GuestMap.new.Goals as goal
 
@@ -9,5 +9,5 @@ use Rattle.nv_mem.proofs.guest_map.GuestMap.new.Goals as goal
 pub invariant_of-result : goal.invariant_of-result
 invariant_of-result c =
     let kept : refusal_of c.args.host_len c.args.regions.items ≡ None = cc (c.refusal.ensures, c.in-None.is, c.deref.ensures.value) in
-    let P : List Region → Type 0 = λ rs. length rs ≤ 64 → IsGuestOrder rs c.of-order.result.places in
+    let P : List Region → Type 0 = λ rs. length rs ≤ ranks → IsGuestOrder rs c.of-order.result.places in
     record { sound = IsSound-tested c.args.host_len c.args.regions.items kept; ordered = subst P c.deref-in-None.ensures.value c.of-order.ensures }

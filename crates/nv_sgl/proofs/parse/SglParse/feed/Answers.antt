@@ -12,10 +12,10 @@ read-requires-clause-whole g c =
 
 pub returns-clause-dialogue : goal.returns-clause-dialogue
 returns-clause-dialogue g c =
-    dialogue_of-fed _ _ _ c.self.inside.cursor _ c.args.bytes.now c.self.inside.chain _ c.in_ok-self-inside.ensures.ok
+    dialogue_of-fed _ _ _ c.self.inside.kept.cursor _ c.args.bytes.now c.self.inside.kept.chain _ c.in_ok-cursor.ensures.ok
     ∙ ap (λ (p : Parse). fed (dialogue_of p) c.args.bytes.now) c.self.view_is
 
 pub returns-clause-chain : goal.returns-clause-chain
 returns-clause-chain g c =
-    grown-fed _ _ c.self.inside.need c.self.inside.cursor _ c.args.bytes.now c.self.inside.chain _ c.in_ok-self-inside.ensures.ok
+    grown-fed _ _ c.self.inside.kept.need c.self.inside.kept.cursor _ c.args.bytes.now c.self.inside.kept.chain _ c.in_ok-cursor.ensures.ok
     ∙ ap (λ (p : Parse). grown p.chain (units_fed (dialogue_of p) c.args.bytes.now)) c.self.view_is

@@ -12,5 +12,5 @@ returns g c =
     want_of-spells c.args.self.now c.requires
     ∙ ap (λ (ps : List Piece). End (Spells ps))
     (ap (λ (p : Parse). pieces_in p.dest p.chain) (sym c.self.view_is)
-    ∙ ap (λ (ps : List Piece). ps ++ pieces_in c.self.inside.dest c.self.inside.chain) (sym (c.reserve.ensures ∙ c.new-places.ensures))
+    ∙ ap (λ (ps : List Piece). ps ++ pieces_in c.self.inside.kept.dest c.self.inside.kept.chain) (sym (c.reserve.ensures ∙ c.new-places.ensures))
     ∙ sym c.in_ok-push_pieces.ensures)
