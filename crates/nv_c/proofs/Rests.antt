@@ -1,27 +1,31 @@
 -- Where nothing of a scope is left to be done.
-use Rattle.std.proofs.Common.{◌≡◌, refl, sym, subst, ap, ◌∙◌, ℕ, ◌+◌, ◌-◌, ◌<◌, ◌≤◌, Bool, true, false, inl, inr, arith}
+use Rattle.std.proofs.Common.{◌≡◌, refl, sym, subst, ap, ◌∙◌, ℕ, ◌+◌, ◌-◌, ◌<◌, ◌≤◌, ◌||◌, Bool, true, false, inl, inr, List, [], ◌∷◌, MatchOption, arith}
 use Rattle.std.proofs.Common.{◌&&◌, nat_lt, length, slice_get, Option, Some, None, is_some}
-use Rattle.std.proofs.lemmas.Bool.{cases_lt}
+use Rattle.std.proofs.lemmas.Bool.{cases_eq, cases_lt, ne_eqb}
 use Rattle.std.proofs.lemmas.Bool.Decides.{nat_tests}
 use Rattle.std.proofs.lemmas.Option.{none-some, slice_get_past}
 use Rattle.std.specs.Option.{option_map}
-use Rattle.nv_c.proofs.Works.{dev_move-no_slot, dev_post-no_slot, dev_take-no_lane, reap-no_lane}
+use Rattle.nv_c.proofs.Works.{IsUnheld, dev_move-no_slot, dev_post-no_slot, dev_take-no_lane, reap-no_lane}
 use Rattle.nv_c.specs.Work.{IsChoice, IsIn, IsNext, IsWaitingAt, NonePosts, NoneTakes, NoneWaits, PartyRests, Rests, SlotRests, guest_served}
 use Rattle.nv_c.specs.declared.working.Choice.{Choice}
 use Rattle.nv_c.specs.declared.working.Choice.TheVariants as choice
 use Rattle.nv_c.specs.declared.working.Scope.{Scope}
 use Rattle.nv_c.specs.declared.working.Scope.TheVariants as scope
+use Rattle.nv_host.proofs.Marked.{out-fails}
+use Rattle.nv_host.proofs.Searches.{none-left}
 use Rattle.nv_host.proofs.Rests.{admin-no_guest, own-job, post-no_tag, refused-not, take-no_guest, take-no_lane, true-false}
 use Rattle.nv_core.specs.Jobs.{holder_of, job_in, job_of}
+use Rattle.nv_core.specs.Tags.{flying_in, is_flying}
 use Rattle.nv_core.specs.declared.holding.Holder.{Holder}
 use Rattle.nv_laws_sound.proofs.LaidOuts.{accepted, sizes-of}
 use Rattle.nv_laws_sound.proofs.Lists.{slice_get-below, slice_get-there, some-same}
 use Rattle.nv_laws_sound.proofs.Slots.{device-there}
-use Rattle.nv_laws_sound.specs.Consistent.{IsConsistent}
+use Rattle.nv_laws_sound.specs.Consistent.{IsConsistent, IsTag}
 use Rattle.nv_mediator.specs.Hosted.{Hosted, hosted_world}
 use Rattle.nv_plan.specs.declared.job.Job.{Job}
 use Rattle.nv_world_model.specs.Area.{tag_count}
-use Rattle.nv_world_model.specs.Device.{DeviceLane}
+use Rattle.nv_tags.proofs.Rows.{is_among}
+use Rattle.nv_world_model.specs.Device.{DeviceLane, Held}
 use Rattle.nv_world_model.specs.Due.{due, is_due_kind}
 use Rattle.nv_world_model.specs.Geometry.{Geometry, Guest}
 use Rattle.nv_world_model.specs.Seat.{owner_by, owner_of}
@@ -60,6 +64,31 @@ module _ (geometry : Geometry) (w : World) (is : IsConsistent geometry w) where
       let side = slice_get-there w.lanes lane (omega (arith, below, sides)) in
       let held = (is.of_tags.lanes lane side.0 d side.1 at).positions.held in
       slice_get_past d.held slot (omega (arith, held, beyond))
+
+  -- nor is a command in a slot whose tag isn't with the physical controller
+  pub slot-unheld : (lane slot : ℕ) → is_among (flying_in (slice_get w.lanes lane)) slot ≡ false → IsUnheld w lane slot
+  slot-unheld lane slot out d there h held = by_lane (slice_get w.lanes lane) refl out
+    where
+      by_tag : (l : Lane) → slice_get w.lanes lane ≡ Some l → is_among (flying_in (Some l)) slot ≡ false → (t : Tag) → slice_get l.tags slot ≡ Some t
+          → IsTag geometry lane slot w.host l.head d (Some h) t → ⊥
+      by_tag l at out Free has is = none-some h (sym is)
+      by_tag l at out (Taken command reads) has is = none-some h (sym is.not_held)
+      by_tag l at out (Flying command share standing) has is =
+          out-fails (λ (t : Tag). is_flying (Some t)) l.tags slot (Flying command share standing) out has refl
+      by_tag l at out (Ended command st share) has is = none-some h (sym is.not_held)
+
+      by_lane : (o : Option Lane) → slice_get w.lanes lane ≡ o → is_among (flying_in o) slot ≡ false → ⊥
+      by_lane None at out =
+          (let below = slice_get-below w.device lane d there in
+          let sides = is.of_tags.sides in
+          none-some _ (sym at ∙ (slice_get-there w.lanes lane (omega (arith, below, sides))).1))
+      by_lane (Some l) at out =
+          (let whole = is.of_tags.lanes lane l d at there in
+          let below = slice_get-below d.held slot (Some h) held in
+          let many = whole.positions.held in
+          let tags = whole.positions.tags in
+          let tag = slice_get-there l.tags slot (omega (arith, below, many, tags)) in
+          by_tag l at out tag.0 tag.1 (whole.tags slot tag.0 (Some h) tag.1 held))
 
   -- whose command waits for its plan was given something
   pub given-there : (lane tag : ℕ) (job : Job) → job_of w lane tag ≡ Some job → (guest : Guest) × (slice_get geometry.guests job.guest ≡ Some guest)
@@ -112,6 +141,23 @@ module _ (geometry : Geometry) (w : World) (is : IsConsistent geometry w) where
       let its : Holder = record { guest = guest; leader = tag } in
       let same : mine ≡ its = some-same mine its (sym own.holder ∙ held) in
       (given.0, ap (λ (x : Holder). slice_get geometry.guests x.guest) (sym same) ∙ given.1)
+
+-- ---- tags one after another
+
+-- what holds of each tag that is not among some holds of each that is not among those but the first, where it holds of that
+pub popped : (P : ℕ → Type 0) (all rest : List ℕ) (tag : ℕ) → all ≡ tag ∷ rest → ((k : ℕ) → is_among all k ≡ false → P k) → P tag
+    → (k : ℕ) → is_among rest k ≡ false → P k
+popped P all rest tag are others here k out = elim (cases_eq k tag) [
+  | inl same ↦ subst P (sym same) here
+  | inr other ↦
+      others k (ap (λ (xs : List ℕ). is_among xs k) are ∙ ap (λ (x : Bool). x || is_among rest k) (ne_eqb tag k (λ e. other (sym e))) ∙ out)
+]
+
+-- where none is left, it holds of each
+pub all-popped : (P : ℕ → Type 0) (first : Option ℕ) (all rest : List ℕ) → first ≡ None → MatchOption first (all ≡ []) (λ t. all ≡ t ∷ rest)
+    → ((k : ℕ) → is_among all k ≡ false → P k) → (k : ℕ) → P k
+all-popped P first all rest none is others k =
+    others k (ap (λ (xs : List ℕ). is_among xs k) (none-left first all rest none is))
 
 -- ---- choices
 

@@ -1,15 +1,16 @@
 -- Events that work makes in a row, and what is left of a world where nothing of a scope comes next.
 use Rattle.std.proofs.Common.{◌≡◌, refl, sym, subst, ap, ◌∙◌, ℕ, zero, suc, ◌+◌, ◌-◌, ◌<◌, ◌≤◌, false, arith}
 use Rattle.std.proofs.Common.{List, [], ◌∷◌, ◌++◌, length, length-append, slice_get, Option, Some, None}
-use Rattle.nv_c.specs.Work.{AreMade, HasEnough, IsStarved, IsTurn, IsWork, Leads, LeadsUp, MayGiveUp, Rests, turn_with}
+use Rattle.nv_c.specs.Work.{GivesUp, HasEnough, IsOneMade, IsStarved, IsTurn, IsWork, Leads, LeadsUp, MayGiveUp, Rests, turn_with}
 use Rattle.nv_c.specs.declared.working.Scope.{Scope}
 use Rattle.nv_c.specs.declared.working.Turn.{Turn}
 use Rattle.nv_c.specs.declared.working.Turn.TheVariants as turn
+use Rattle.nv_host.proofs.InRow.{give-by, more-by, none-by, one-by, up-by, zero-by}
 use Rattle.nv_host.proofs.Rests.{due-not}
 use Rattle.nv_mediator.specs.Hosted.{Hosted, IsMade}
 use Rattle.nv_model.specs.declared.reply.Reply.{Reply}
 use Rattle.nv_model.specs.declared.reply.Reply.TheVariants as reply
-use Rattle.nv_world_model.specs.Device.{DeviceLane}
+use Rattle.nv_world_model.specs.Device.{DeviceLane, Held}
 use Rattle.nv_world_model.specs.Due.{due}
 use Rattle.nv_world_model.specs.Geometry.{Geometry}
 use Rattle.nv_world_model.specs.Step.{After, device_move, device_post, device_take, for_held, for_one, is_done}
@@ -20,38 +21,21 @@ use Rattle.nv_world_model.specs.declared.event.Event.TheVariants as event
 
 -- ---- events in a row
 
-joined : (s : Scope) (es fs : List Event) (a b c : Hosted) → AreMade s es a b → AreMade s fs b c → AreMade s (es ++ fs) a c
-unfolding AreMade
-joined s [] fs a b c first then = subst (λ (x : Hosted). AreMade s fs x c) first then
-joined s (e ∷ es) fs a b c first then = (first.0, first.1, first.2, first.3, joined s es fs first.2 b c first.4 then)
-
 -- nothing was done
 pub leads_none : (s : Scope) (old new : Hosted) → new ≡ old → Leads s 0 old new
-unfolding AreMade
-leads_none s old new same = record { events = []; made = same; counted = refl }
+leads_none s = none-by Hosted (IsOneMade s)
 
 -- one event was made
 pub leads_one : (s : Scope) (e : Event) (old new : Hosted) (r : Reply) → IsWork s old e → IsMade e old r new → Leads s 1 old new
-unfolding AreMade
-leads_one s e old new r is made = record { events = e ∷ []; made = (is, r, new, made, refl); counted = refl }
+leads_one s e old new r is made = one-by Hosted (IsOneMade s) e old new (record { work = is; reply = r; made = made })
 
--- and more behind these
+-- and more after these
 pub leads_more : (s : Scope) (m n : ℕ) (a b c : Hosted) → Leads s m a b → Leads s n b c → Leads s (m + n) a c
-leads_more s m n a b c first then =
-    record {
-      events = first.events ++ then.events;
-      made = joined s first.events then.events a b c first.made then.made;
-      counted = length-append first.events then.events ∙ (let one = first.counted in let two = then.counted in omega (arith, one, two));
-    }
+leads_more s = more-by Hosted (IsOneMade s)
 
 -- none lead nowhere
 leads_zero : (s : Scope) (a b : Hosted) → Leads s 0 a b → b ≡ a
-unfolding AreMade
-leads_zero s a b leads = nowhere leads.events leads.made leads.counted
-  where
-    nowhere : (es : List Event) → AreMade s es a b → length es ≡ 0 → b ≡ a
-    nowhere [] made none = made
-    nowhere (e ∷ es) made none = absurd (omega (arith, none))
+leads_zero s a b leads = zero-by Hosted (IsOneMade s) 0 a b leads refl
 
 -- ---- how a call ends
 
@@ -83,23 +67,11 @@ worked_all s most done a b leads few all =
 
 -- a command was given up after some
 pub leads_up : (s : Scope) (m n : ℕ) (a b c : Hosted) → Leads s m a b → LeadsUp s n b c → LeadsUp s (m + n) a c
-leads_up s m n a b c first up =
-    record {
-      less = m + up.less;
-      before = up.before;
-      leads = leads_more s m up.less a b up.before first up.leads;
-      counted = (let one = up.counted in omega (arith, one));
-      lane = up.lane;
-      tag = up.tag;
-      own = up.own;
-      waits = up.waits;
-      reply = up.reply;
-      made = up.made;
-    }
+leads_up s = up-by Hosted (IsOneMade s) (GivesUp s)
 
 pub leads_give : (s : Scope) (lane tag : ℕ) (a b : Hosted) (r : Reply) → MayGiveUp s a lane tag → IsMade (event.GiveUp lane tag) a r b → LeadsUp s 1 a b
 leads_give s lane tag a b r may made =
-    record { less = 0; before = a; leads = leads_none s a a refl; counted = refl; lane = lane; tag = tag; own = may.own; waits = may.waits; reply = r; made = made }
+    give-by Hosted (IsOneMade s) (GivesUp s) a b (record { lane = lane; tag = tag; own = may.own; waits = may.waits; reply = r; made = made })
 
 -- a turn after some events
 pub turn_after : (done : ℕ) (t : Turn) (s : Scope) (most : ℕ) (a b c : Hosted) → Leads s done a b → done < most → IsTurn s (most - done) b t c
@@ -119,6 +91,10 @@ turn_after (suc n) turn.Starved s most a b c first below made =
     (subst (λ (x : Hosted). Leads s (suc n) a x) (sym made.0) first, omega arith, omega (arith, below))
 
 -- ---- what is due nowhere
+
+-- the physical controller holds no command in a slot of a lane
+abbrev pub IsUnheld : World → (lane slot : ℕ) → Type 0
+IsUnheld w lane slot = (d : DeviceLane) → slice_get w.device lane ≡ Some d → (h : Held) → slice_get d.held slot ≡ Some (Some h) → ⊥
 
 module _ (geometry : Geometry) (w : World) where
   -- what the physical controller would do on no lane, or in no slot
@@ -141,6 +117,37 @@ module _ (geometry : Geometry) (w : World) where
       by_lane None is = refl
       by_lane (Some d) is =
           ap (λ x. is_done (for_held x w (λ h. device_move geometry.disk_blocks lane slot number h w)).reply) (none d is)
+
+  -- or in a slot that holds no command
+  pub dev_move-unheld : (lane slot number : ℕ) → IsUnheld w lane slot → due geometry (event.DevMove lane slot number) w ≡ false
+  unfolding due step
+  dev_move-unheld lane slot number none = by_lane (slice_get w.device lane) refl
+    where
+      by_held : (d : DeviceLane) → slice_get w.device lane ≡ Some d → (x : Option (Option Held)) → slice_get d.held slot ≡ x
+          → is_done (for_held x w (λ h. device_move geometry.disk_blocks lane slot number h w)).reply ≡ false
+      by_held d is None at = refl
+      by_held d is (Some None) at = refl
+      by_held d is (Some (Some h)) at = absurd (none d is h at)
+
+      by_lane : (o : Option DeviceLane) → slice_get w.device lane ≡ o
+          → is_done (for_one o w (λ d. for_held (slice_get d.held slot) w (λ h. device_move geometry.disk_blocks lane slot number h w))).reply ≡ false
+      by_lane None is = refl
+      by_lane (Some d) is = by_held d is (slice_get d.held slot) refl
+
+  pub dev_post-unheld : (lane slot : ℕ) → IsUnheld w lane slot → due geometry (event.DevPost lane slot) w ≡ false
+  unfolding due step
+  dev_post-unheld lane slot none = by_lane (slice_get w.device lane) refl
+    where
+      by_held : (d : DeviceLane) → slice_get w.device lane ≡ Some d → (x : Option (Option Held)) → slice_get d.held slot ≡ x
+          → is_done (for_held x w (λ h. device_post h.left geometry.mediator lane slot h d w)).reply ≡ false
+      by_held d is None at = refl
+      by_held d is (Some None) at = refl
+      by_held d is (Some (Some h)) at = absurd (none d is h at)
+
+      by_lane : (o : Option DeviceLane) → slice_get w.device lane ≡ o
+          → is_done (for_one o w (λ d. for_held (slice_get d.held slot) w (λ h. device_post h.left geometry.mediator lane slot h d w))).reply ≡ false
+      by_lane None is = refl
+      by_lane (Some d) is = by_held d is (slice_get d.held slot) refl
 
   pub dev_post-no_slot : (lane slot : ℕ) → ((d : DeviceLane) → slice_get w.device lane ≡ Some d → slice_get d.held slot ≡ None)
       → due geometry (event.DevPost lane slot) w ≡ false

@@ -14,6 +14,7 @@ use Rattle.nv_c.specs.declared.working.Why.{Why}
 use Rattle.nv_c.specs.declared.working.Why.TheVariants as why
 use Rattle.nv_core.specs.Jobs.{holder_of, job_of}
 use Rattle.nv_core.specs.Submit.{IsCurrent, IsLimit}
+use Rattle.nv_host.specs.InRow.{LeadsBy, LeadsUpBy}
 use Rattle.nv_mediator.specs.Hosted.{Hosted, IsMade, hosted_world}
 use Rattle.nv_model.specs.Transcript.{Settled, Wanted}
 use Rattle.nv_model.specs.declared.reply.Reply.{Reply}
@@ -90,29 +91,28 @@ Rests s h = (e : Event) → IsWork s h e → ⊥
 
 -- ---- what is done
 
--- these events lead from one world to the other, each of them work when it is made
-unfoldable pub AreMade : Scope → List Event → (old new : Hosted) → Type 0
-AreMade s [] old new = new ≡ old
-AreMade s (e ∷ es) old new = IsWork s old e × (r : Reply) × (between : Hosted) × IsMade e old r between × AreMade s es between new
+-- an event was made that was work then
+pub record IsOneMade (s : Scope) (e : Event) (old new : Hosted) : Type 0 where
+  pub work : IsWork s old e
+  pub reply : Reply
+  pub made : IsMade e old reply new
 
--- so many do
-pub record Leads (s : Scope) (count : ℕ) (old new : Hosted) : Type 0 where
-  pub events : List Event
-  pub made : AreMade s events old new
-  pub counted : length events ≡ count
+-- so many lead from one world to the other
+abbrev pub Leads : Scope → (count : ℕ) → (old new : Hosted) → Type 0
+Leads s count old new = LeadsBy Hosted (IsOneMade s) count old new
 
--- so many do, of which the last gives a command of the scope up that waits for its plan
-pub record LeadsUp (s : Scope) (count : ℕ) (old new : Hosted) : Type 0 where
-  pub less : ℕ
-  pub before : Hosted
-  pub leads : Leads s less old before
-  pub counted : count ≡ less + 1
+-- a command of the scope was given up that waited for its plan
+pub record GivesUp (s : Scope) (old new : Hosted) : Type 0 where
   pub lane : ℕ
   pub tag : ℕ
-  pub own : IsIn s (hosted_world before) (event.GiveUp lane tag)
-  pub waits : IsSome (job_of (hosted_world before) lane tag)
+  pub own : IsIn s (hosted_world old) (event.GiveUp lane tag)
+  pub waits : IsSome (job_of (hosted_world old) lane tag)
   pub reply : Reply
-  pub made : IsMade (event.GiveUp lane tag) before reply new
+  pub made : IsMade (event.GiveUp lane tag) old reply new
+
+-- so many lead there, of which the last gives such a command up
+abbrev pub LeadsUp : Scope → (count : ℕ) → (old new : Hosted) → Type 0
+LeadsUp s count old new = LeadsUpBy Hosted (IsOneMade s) (GivesUp s) count old new
 
 -- as many events as were asked for, or fewer, and then nothing is left to be done
 pub record HasEnough (s : Scope) (most done : ℕ) (old new : Hosted) : Type 0 where
@@ -217,9 +217,12 @@ abbrev pub IsFound : Scope → Hosted → (nothing : Type 0) → Option Event �
 IsFound s h nothing None = nothing
 IsFound s h nothing (Some e) = IsWork s h e
 
--- no command of a guest's on a lane waits for its plan
+-- no command of a guest's on a lane waits for its plan under that tag; none does at all
+abbrev pub NoneWaitsAt : (guest lane tag : ℕ) → Hosted → Type 0
+NoneWaitsAt guest lane tag h = (job : Job) → job_of (hosted_world h) lane tag ≡ Some job → job.guest ≡ guest → ⊥
+
 abbrev pub NoneWaits : (guest lane : ℕ) → Hosted → Type 0
-NoneWaits guest lane h = (tag : ℕ) (job : Job) → job_of (hosted_world h) lane tag ≡ Some job → job.guest ≡ guest → ⊥
+NoneWaits guest lane h = (tag : ℕ) → NoneWaitsAt guest lane tag h
 
 -- none of its commands may be taken on that lane
 abbrev pub NoneTakes : (guest lane : ℕ) → Hosted → Type 0

@@ -1,7 +1,7 @@
 //! What is due, carried out.
 
 ghost use Rattle.std.specs.Prelude.{◌≡◌, ◌<◌, ◌≤◌, ◌↔◌, ℕ, ⊤, IsTrue, None, Some, false, length};
-ghost use Rattle.nv_c.specs.Work.{IsChoice, IsFound, IsTurn, IsWork, IsWorked, NonePosts, NoneTakes, NoneWaits, PartyRests, Rests, SlotRests, scope_numbered};
+ghost use Rattle.nv_c.specs.Work.{IsChoice, IsFound, IsTurn, IsWork, IsWorked, NonePosts, NoneTakes, NoneWaits, NoneWaitsAt, PartyRests, Rests, SlotRests, scope_numbered};
 ghost use Rattle.nv_core.specs.Jobs.{holder_of, job_of};
 ghost use Rattle.nv_core.specs.Submit.{IsCurrent};
 ghost use Rattle.nv_mediator.specs.Hosted.{hosted_world};
@@ -11,8 +11,9 @@ use crate::event::byte;
 use crate::kept::Kept;
 use crate::reading::{give_up, given_to, read_lists, resume_lists};
 use nv_mediator::{Holder, Mediator};
-use nv_model::limits::{LAST_QUEUE, MOST_GUESTS, MOST_LANES, TAGS};
+use nv_model::limits::{LAST_QUEUE, MOST_GUESTS, MOST_LANES};
 use nv_plan::{Job, Plan, Planned, make_plan};
+use nv_tags::Group;
 use nv_world_model::Event;
 use std::alloc::Global;
 
@@ -93,6 +94,8 @@ pub(crate) struct Last {
     slot: u8,
     // the unit that comes next there
     unit: u64,
+    // the guests of whom nothing was found, a bit for each
+    idle: u64,
 }
 
 impl Last {
@@ -103,7 +106,22 @@ impl Last {
             events: 0,
             slot: 0,
             unit: 0,
+            idle: 0,
         }
+    }
+
+    // Notes that nothing was found of the one of that number.
+    fn passed(&mut self, party: u8) {
+        if party < MOST_GUESTS {
+            self.idle |= 1 << party;
+        }
+    }
+
+    // The guests of whom nothing was found since the last such call.
+    fn take_idle(&mut self) -> Group {
+        let idle = Group::of(self.idle);
+        self.idle = 0;
+        idle
     }
 
     // Notes whom the search begins with: after a guest's whole turn the next one. What a lane has to do ends by itself.
@@ -209,7 +227,9 @@ fn serve(
     requires { 0 < most }
     ensures { IsTurn scope most mediator.old result mediator.new }
 {
-    match next_of(alloc, mediator, kept, scope, last) {
+    let next = next_of(alloc, mediator, kept, scope, last);
+    settle_idle(mediator, last);
+    match next {
         Choice::Make(event) => make(alloc, mediator, scope, &event, most),
         Choice::Submit(plan) => submit(mediator, scope, plan, most),
         Choice::Read(job) => read_lists(alloc, mediator, kept, scope, last, job, most),
@@ -219,6 +239,18 @@ fn serve(
         Choice::GiveUp(lane, tag) => give_up(alloc, mediator, scope, lane, tag, most),
         Choice::Nothing => Turn::Idle,
         Choice::Starved => Turn::Starved,
+    }
+}
+
+// Guests of whom nothing was found are noted no more, where nothing is due of their queues: the next searches pass by them.
+fn settle_idle(mediator: &mut Mediator, last: &mut Last)
+    ensures { mediator.new ≡ mediator.old }
+{
+    let mut idle = last.take_idle();
+    while let Some(guest) = idle.pop() {
+        if mediator.is_noted(guest) {
+            mediator.settle(guest);
+        }
     }
 }
 
@@ -306,7 +338,7 @@ fn next_among(
 {
     for number in from..to {
         match next_of_one(alloc, mediator, kept, number, last) {
-            Choice::Nothing => {}
+            Choice::Nothing => last.passed(number),
             choice => {
                 last.found(number);
                 return choice;
@@ -338,7 +370,7 @@ fn next_of_guest(alloc: Global, mediator: &Mediator, kept: &Kept, guest: u8) -> 
     ensures { IsChoice (Scope.Guest guest) mediator.now (Rests (Scope.Guest guest) mediator.now) result }
 {
     mediator.promise();
-    if mediator.due(&Event::Admin(guest)) {
+    if is_admin_due(mediator, guest) {
         return Choice::Make(Event::Admin(guest));
     }
     for lane in 0..mediator.lanes() {
@@ -353,18 +385,40 @@ fn next_of_guest(alloc: Global, mediator: &Mediator, kept: &Kept, guest: u8) -> 
     Choice::Nothing
 }
 
+// Whether a guest's admin queue has something to do.
+fn is_admin_due(mediator: &Mediator, guest: u8) -> bool
+    ensures { result ≡ due mediator.now.geometry (Event.Admin guest) (hosted_world mediator.now) }
+{
+    mediator.is_noted(guest) && mediator.due(&Event::Admin(guest))
+}
+
 // What comes next of a guest's commands on a lane that wait for their plans.
 fn next_plan(alloc: Global, mediator: &Mediator, kept: &Kept, guest: u8, lane: u8) -> Choice
     ensures { IsChoice (Scope.Guest guest) mediator.now (NoneWaits guest lane mediator.now) result }
 {
-    mediator.promise();
-    for tag in 0..TAGS {
-        if is_own(mediator, guest, lane, tag) {
-            match plan(alloc, mediator, kept, guest, lane, tag) {
-                Choice::Nothing => {}
-                choice => return choice,
-            }
+    let mut taken = mediator.taken(lane);
+    while let Some(tag) = taken.pop() {
+        match next_of_tag(alloc, mediator, kept, guest, lane, tag) {
+            Choice::Nothing => {}
+            choice => return choice,
         }
+    }
+    Choice::Nothing
+}
+
+// What comes next of a guest's command that goes by a tag, where there is one, and it waits for its plan.
+fn next_of_tag(
+    alloc: Global,
+    mediator: &Mediator,
+    kept: &Kept,
+    guest: u8,
+    lane: u8,
+    tag: u8,
+) -> Choice
+    ensures { IsChoice (Scope.Guest guest) mediator.now (NoneWaitsAt guest lane tag mediator.now) result }
+{
+    if is_own(mediator, guest, lane, tag) {
+        return plan(alloc, mediator, kept, guest, lane, tag);
     }
     Choice::Nothing
 }
@@ -407,6 +461,9 @@ fn plan(alloc: Global, mediator: &Mediator, kept: &Kept, guest: u8, lane: u8, ta
 fn next_take(mediator: &Mediator, guest: u8, lane: u8) -> Option<Event>
     ensures { IsFound (Scope.Guest guest) mediator.now (NoneTakes guest lane mediator.now) result }
 {
+    if !mediator.is_noted(guest) {
+        return None;
+    }
     for queue in 1..=LAST_QUEUE {
         let event = Event::Take(guest, queue, lane);
         if mediator.due(&event) {
@@ -446,8 +503,8 @@ fn next_of_lane(mediator: &Mediator, lane: u8, last: &mut Last) -> Choice
 fn next_post(mediator: &Mediator, lane: u8) -> Option<Event>
     ensures { IsFound (Scope.Lane lane) mediator.now (NonePosts lane mediator.now) result }
 {
-    mediator.promise();
-    for tag in 0..TAGS {
+    let mut ended = mediator.ended(lane);
+    while let Some(tag) = ended.pop() {
         let event = Event::Post(lane, tag);
         if mediator.due(&event) {
             return Some(event);
@@ -456,12 +513,13 @@ fn next_post(mediator: &Mediator, lane: u8) -> Option<Event>
     None
 }
 
-// What is due of the commands that the physical controller holds in a lane's slots.
+// What is due of the commands that the physical controller holds in a lane's slots: the slot of a command has the number of its tag.
 fn next_in_slots(mediator: &Mediator, lane: u8, last: &mut Last) -> Option<Event>
     ensures { IsFound (Scope.Lane lane) mediator.now ((slot : ℕ) → SlotRests lane mediator.now slot) result }
 {
     mediator.promise();
-    for slot in 0..TAGS {
+    let mut flying = mediator.flying(lane);
+    while let Some(slot) = flying.pop() {
         if let Some(event) = next_in_slot(mediator, lane, slot, last) {
             return Some(event);
         }

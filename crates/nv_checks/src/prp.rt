@@ -1,5 +1,6 @@
 //! Transfers over a flat memory of 40000h bytes, and what is built. 8,192 bytes are two pages, 12,288 three.
 mod building;
+mod named;
 mod reading;
 
 use crate::memory::whole_map;

@@ -5,12 +5,13 @@ use Rattle.std.specs.Option.{option_map}
 use Rattle.std.proofs.lemmas.List.{length-map}
 use Rattle.std.proofs.lemmas.Option.{slice_get-map}
 use mathlib.Core.Path.{fun_ext}
-use Rattle.nv_core.proofs.HeldTags.{count-cons}
+use Rattle.nv_core.proofs.HeldTags.{count-cons, in-front, numbers as numbered}
 use Rattle.nv_core.specs.Front.{IsBeside, IsSideOf, Side}
 use Rattle.nv_core.specs.Held.{held_in, is_of}
 use Rattle.nv_core.specs.Jobs.{holder_in, job_in}
 use Rattle.nv_core.specs.Kept.{AreKept}
 use Rattle.nv_core.specs.Submit.{IsCurrentIn, IsOfTag}
+use Rattle.nv_core.specs.Tags.{those_in}
 use Rattle.nv_laws_sound.proofs.Lists.{some-same}
 use Rattle.nv_laws_sound.proofs.Unplaced.{placed-alike}
 use Rattle.nv_laws_sound.specs.Counted.{IsCounted, command_in, commands}
@@ -162,6 +163,25 @@ module _ (ls ks : List Lane) (same : map unplaced_lane ls ≡ map unplaced_lane 
       plain : (o : Option Lane) → held_in guest (option_map unplaced_lane o) ≡ held_in guest o
       plain None = refl
       plain (Some l) = tags l.tags
+
+  -- tags of which a test holds that asks for no place are the same
+  pub those-alike : (test : Tag → Bool) → ((t : Tag) → test (unplaced_tag t) ≡ test t) → (lane : ℕ)
+      → those_in test (slice_get ls lane) ≡ those_in test (slice_get ks lane)
+  those-alike test placeless lane = sym (plain (slice_get ls lane)) ∙ ap (those_in test) there ∙ plain (slice_get ks lane)
+    where
+      there : option_map unplaced_lane (slice_get ls lane) ≡ option_map unplaced_lane (slice_get ks lane)
+      there = sym (slice_get-map unplaced_lane ls lane) ∙ ap (λ (xs : List Lane). slice_get xs lane) same ∙ slice_get-map unplaced_lane ks lane
+
+      tags : (from : ℕ) (ts : List Tag) → numbered test from (map unplaced_tag ts) ≡ numbered test from ts
+      tags from [] = refl
+      tags from (t ∷ ts) =
+          in-front test from (unplaced_tag t) (map unplaced_tag ts) (test t) (placeless t)
+          ∙ ap (λ (xs : List ℕ). cond (test t) (from ∷ xs) xs) (tags (from + 1) ts)
+          ∙ sym (in-front test from t ts (test t) refl)
+
+      plain : (o : Option Lane) → those_in test (option_map unplaced_lane o) ≡ those_in test o
+      plain None = refl
+      plain (Some l) = tags 0 l.tags
 
   pub job-alike : (lane tag : ℕ) → job_in lane tag (tag_in (slice_get ls lane) tag) ≡ job_in lane tag (tag_in (slice_get ks lane) tag)
   job-alike lane tag =

@@ -5,7 +5,7 @@ use Rattle.std.specs.Prelude.{IfSome}
 use Rattle.std.proofs.lemmas.List.{length-set}
 use Rattle.std.proofs.lemmas.Option.{slice_get_past}
 use Rattle.std.specs.List.{slice_index_or}
-use Rattle.nv_core.proofs.Alike.{as-many, beside-told, held-alike, holder-alike, job-alike, kept-alike}
+use Rattle.nv_core.proofs.Alike.{as-many, beside-told, held-alike, holder-alike, job-alike, kept-alike, those-alike}
 use Rattle.nv_core.proofs.DeviceNeeds.{holding-at}
 use Rattle.nv_core.proofs.DevicePosts.{answered, ended-by, post-done, post-not}
 use Rattle.nv_core.proofs.DeviceSteps.{same-world}
@@ -23,6 +23,7 @@ use Rattle.nv_core.specs.Kept.{AreKept, IsKept, IsLent}
 use Rattle.nv_core.specs.Seat.{IsLoaded}
 use Rattle.nv_core.specs.State.{IsOf, IsStep, State, state_of, world_of}
 use Rattle.nv_core.specs.Places.{placed_lanes}
+use Rattle.nv_core.specs.Tags.{is_ended, is_flying, is_taken, those_in}
 use Rattle.nv_device.specs.Moving.{IsMoved, unit_of}
 use Rattle.nv_device.specs.Physical.{done_where, has_ended, has_left, held_at, lane_of, no_lane, with_lane}
 use Rattle.nv_device.specs.Posting.{IsPosted}
@@ -37,7 +38,7 @@ use Rattle.nv_laws_sound.proofs.Steps.{step-consistent}
 use Rattle.nv_laws_sound.specs.Consistent.{IsConsistent}
 use Rattle.nv_laws_sound.specs.LaidOut.{IsLaidOut}
 use Rattle.nv_laws_sound.specs.Mediators.{IsMediators}
-use Rattle.nv_laws_sound.specs.Unplaced.{IsControllers, after_unplaced, unplaced_lane}
+use Rattle.nv_laws_sound.specs.Unplaced.{IsControllers, after_unplaced, unplaced_lane, unplaced_tag}
 use Rattle.nv_mem.specs.Lent.{bytes_of_hosts}
 use Rattle.nv_model.specs.Controller.{Controller}
 use Rattle.nv_model.specs.Memory.{byte_in}
@@ -48,7 +49,7 @@ use Rattle.nv_world_model.specs.Due.{due}
 use Rattle.nv_world_model.specs.Geometry.{Geometry}
 use Rattle.nv_world_model.specs.Step.{After, step}
 use Rattle.nv_world_model.proofs.Seats.{slice_get-set}
-use Rattle.nv_world_model.specs.World.{Lane, World, tag_in}
+use Rattle.nv_world_model.specs.World.{Ended, Flying, Free, Lane, Tag, Taken, World, tag_in}
 use Rattle.nv_world_model.specs.declared.event.Event.{Event}
 use Rattle.nv_world_model.specs.declared.event.Event.TheVariants as event
 
@@ -283,6 +284,31 @@ module _ (host : List ℕ) (device : Physical) (front : Side) (old : State) (sam
   held-here guest lane =
       held-alike front.lanes (state_of host device front).lanes found-here guest lane
       ∙ ap (λ (o : State). held_in guest (slice_get (world_of o).lanes lane)) same
+
+  pub those-here : (test : Tag → Bool) → ((t : Tag) → test (unplaced_tag t) ≡ test t) → (lane : ℕ)
+      → those_in test (slice_get front.lanes lane) ≡ those_in test (slice_get (world_of old).lanes lane)
+  those-here test placeless lane =
+      those-alike front.lanes (state_of host device front).lanes found-here test placeless lane
+      ∙ ap (λ (o : State). those_in test (slice_get (world_of o).lanes lane)) same
+
+-- tests that ask for no place
+pub placeless-taken : (t : Tag) → is_taken (unplaced_tag t) ≡ is_taken t
+placeless-taken Free = refl
+placeless-taken (Taken command reads) = refl
+placeless-taken (Flying command share at) = refl
+placeless-taken (Ended command st share) = refl
+
+pub placeless-flying : (t : Tag) → is_flying (Some (unplaced_tag t)) ≡ is_flying (Some t)
+placeless-flying Free = refl
+placeless-flying (Taken command reads) = refl
+placeless-flying (Flying command share at) = refl
+placeless-flying (Ended command st share) = refl
+
+pub placeless-ended : (t : Tag) → is_ended (unplaced_tag t) ≡ is_ended t
+placeless-ended Free = refl
+placeless-ended (Taken command reads) = refl
+placeless-ended (Flying command share at) = refl
+placeless-ended (Ended command st share) = refl
 
 -- the same where the host is lent as a slice of one
 module _ (geometry : Geometry) (hosts : List (List ℕ)) (host : List ℕ) (is : hosts ≡ host ∷ []) (device : Physical) (front : Side) (old : State)

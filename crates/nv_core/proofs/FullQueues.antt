@@ -1,10 +1,10 @@
 -- Where a guest's completion queue has no room, no completion of a command of that queue is due.
-use Rattle.std.proofs.Common.{◌≡◌, ℕ, ◌+◌, ◌==◌, cond, Bool, true, false, List, length, [], slice_get, Option, Some, None, is_some, option_map, eqb-true, refl, sym, ap, ◌∙◌, arith}
+use Rattle.std.proofs.Common.{◌≡◌, ℕ, ◌+◌, ◌==◌, cond, Bool, true, false, List, length, [], slice_get, Option, Some, None, is_some, option_map, eqb-true, refl, sym, ap, ◌∙◌, subst, arith}
 use Rattle.nv_core.proofs.Dues.{due-by}
 use Rattle.nv_core.proofs.GroupTags.{lane-where, numbers-from}
 use Rattle.nv_core.proofs.TagLists.{made-at}
 use Rattle.nv_core.specs.Front.{IsSideOf, Side}
-use Rattle.nv_core.specs.FullQueues.{AreWaiting, IsFull, from_in, is_from, origin_by, origin_in}
+use Rattle.nv_core.specs.FullQueues.{AreWaiting, IsFull, NoneWait, from_in, is_from, origin_by, origin_in}
 use Rattle.nv_core.specs.Tags.{IsUsed, IsWhole, tag_made, tags_of}
 use Rattle.nv_core.specs.declared.full.Origin.{Origin}
 use Rattle.nv_core.specs.declared.progress.Progress.{Progress}
@@ -144,6 +144,15 @@ none-posted guest queue side is c there =
     ap (λ (x : Controller). cond (is_enabled x) (is_some (post x queue 0 0 (deciding []))) true) (some-same c is.controller (sym there ∙ is.there))
     ∙ ap (λ (b : Bool). cond b (is_some (post is.controller queue 0 0 (deciding []))) true) is.enabled
     ∙ ap (λ (p : Option Posted). is_some p) (is.full 0 (deciding []))
+
+pub none-waits : (side : Side) (lane tag : ℕ) (here : Lane) → slice_get side.lanes lane ≡ Some here → (o : Origin)
+    → origin_in (slice_get here.tags tag) ≡ Some o → IsFull o.guest o.queue side → (tags : List ℕ) → NoneWait lane tag side tags
+none-waits side lane tag here there o origin full tags = λ l command at used room.
+    let same : l ≡ here = some-same l here (sym at ∙ there) in
+    let from : o ≡ origin_by command =
+    some-same o (origin_by command)
+    (sym origin ∙ ap (λ (x : Lane). origin_in (slice_get x.tags tag)) (sym same) ∙ ap (λ (t : Option Command). option_map origin_by t) used) in
+    absurd (room (subst (λ (x : Origin). IsFull x.guest x.queue side) from full))
 
 pub all-waiting : (side : Side) (lane tag : ℕ) (here : Lane) → slice_get side.lanes lane ≡ Some here → (o : Origin)
     → origin_in (slice_get here.tags tag) ≡ Some o → (tags : List ℕ) → tags ≡ from_in o.guest o.queue here → AreWaiting lane tag side tags

@@ -22,8 +22,18 @@ pub count-cons : {X : Type 0} (p : X → Bool) (x : X) (xs : List X) → count_b
 count-cons p x xs = sum_by-cons (λ y. cond (p y) 1 0) x xs
 
 -- as many numbers as tags
-abbrev numbers : (test : Tag → Bool) (from : ℕ) → List Tag → List ℕ
+abbrev pub numbers : (test : Tag → Bool) (from : ℕ) → List Tag → List ℕ
 numbers test from tags = map (λ (u : ℕ × Tag). u.0) (filter (λ (u : ℕ × Tag). test u.1) (enumerate_from from tags))
+
+-- one in front, or not
+pub in-front : (test : Tag → Bool) (from : ℕ) (t : Tag) (tags : List Tag) (b : Bool) → test t ≡ b
+    → numbers test from (t ∷ tags) ≡ cond b (from ∷ numbers test (from + 1) tags) (numbers test (from + 1) tags)
+in-front test from t tags true is =
+    let rest : List (ℕ × Tag) = filter (λ (v : ℕ × Tag). test v.1) (enumerate_from (from + 1) tags) in
+    ap (λ (x : Bool). map (λ (v : ℕ × Tag). v.0) (cond x ((from, t) ∷ rest) rest)) is
+in-front test from t tags false is =
+    let rest : List (ℕ × Tag) = filter (λ (v : ℕ × Tag). test v.1) (enumerate_from (from + 1) tags) in
+    ap (λ (x : Bool). map (λ (v : ℕ × Tag). v.0) (cond x ((from, t) ∷ rest) rest)) is
 
 one-more : (test : Tag → Bool) (from : ℕ) (t : Tag) (tags : List Tag) (b : Bool) → test t ≡ b → length (numbers test (from + 1) tags) ≡ count_by test tags
     → length (numbers test from (t ∷ tags)) ≡ count_by test (t ∷ tags)

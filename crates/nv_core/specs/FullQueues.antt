@@ -1,5 +1,5 @@
 -- Commands by the queue that they were taken from, and queues of a guest that are full (profile).
-use Rattle.std.specs.Prelude.{◌≡◌, ℕ, ◌<◌, ◌≤◌, ◌==◌, ◌&&◌, Bool, true, false, List, slice_get, Option, Some, None, option_map}
+use Rattle.std.specs.Prelude.{◌≡◌, ℕ, ◌<◌, ◌≤◌, ◌==◌, ◌&&◌, Bool, true, false, List, [], slice_get, Option, Some, None, option_map}
 use Rattle.nv_core.specs.Front.{Side}
 use Rattle.nv_core.specs.Tags.{command_at}
 use Rattle.nv_core.specs.declared.full.Origin.{Origin}
@@ -40,3 +40,8 @@ pub record IsFull (guest queue : ℕ) (side : Side) : Type 0 where
 abbrev pub AreWaiting : (lane tag : ℕ) → Side → (tags : List ℕ) → Type 0
 AreWaiting lane tag side tags = (l : Lane) (command : Command) → slice_get side.lanes lane ≡ Some l
     → command_at (slice_get l.tags tag) ≡ Some command → IsFull command.guest command.queue side → tags ≡ from_in command.guest command.queue l
+
+-- none do, where it has room
+abbrev pub NoneWait : (lane tag : ℕ) → Side → (tags : List ℕ) → Type 0
+NoneWait lane tag side tags = (l : Lane) (command : Command) → slice_get side.lanes lane ≡ Some l
+    → command_at (slice_get l.tags tag) ≡ Some command → (IsFull command.guest command.queue side → ⊥) → tags ≡ []

@@ -13,9 +13,13 @@ pub record IsQuiet (c : Controller) : Type 0 where
   pub admin : (test : ℕ → Bool) (blocks : ℕ) (memory : ℕ → ℕ) → is_stepped (admin test blocks c memory) ≡ false
   pub queues : (queue : ℕ) → is_io_queue queue ≡ true → front c queue ≡ None
 
+-- the same of a guest's controller, where there is one
+abbrev pub IsQuietAt : (guest : ℕ) → List Controller → Type 0
+IsQuietAt guest cs = (c : Controller) → slice_get cs guest ≡ Some c → IsQuiet c
+
 -- a side has nothing that is due of a guest's queues
 abbrev pub Rests : (guest : ℕ) → Side → Type 0
-Rests guest side = (c : Controller) → slice_get side.controllers guest ≡ Some c → IsQuiet c
+Rests guest side = IsQuietAt guest side.controllers
 
 -- whether a command of a controller's queue may be taken, where enough tags are free; none where there is no such controller
 abbrev pub has_front : (queue : ℕ) → Option Controller → Bool

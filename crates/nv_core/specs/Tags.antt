@@ -158,14 +158,19 @@ is_ended (Taken command reads) = false
 is_ended (Flying command share at) = false
 is_ended (Ended command st share) = true
 
--- those tags of a lane, in order
+-- the tags of a lane of which a test holds, in order; none where there is no such lane
+abbrev pub those_in : (Tag → Bool) → Option Lane → List ℕ
+those_in test None = []
+those_in test (Some l) = tags_where test l.tags
+
 abbrev pub taken_in : Option Lane → List ℕ
-taken_in None = []
-taken_in (Some l) = tags_where is_taken l.tags
+taken_in o = those_in is_taken o
+
+abbrev pub flying_in : Option Lane → List ℕ
+flying_in o = those_in (λ t. is_flying (Some t)) o
 
 abbrev pub ended_in : Option Lane → List ℕ
-ended_in None = []
-ended_in (Some l) = tags_where is_ended l.tags
+ended_in o = those_in is_ended o
 
 -- the command of a tag
 abbrev pub command_at : Option Tag → Option Command

@@ -1,12 +1,14 @@
 //! The events of guests and of the mediator, by its front with the host's memory and the physical controller's doorbells.
 
-ghost use Rattle.std.specs.Prelude.{◌≡◌, ◌↔◌, ◌<◌, ◌≤◌, IfOk, IfSome, IsSome, IsTrue, None, OnErr, Some, length, slice_get};
+ghost use Rattle.std.specs.Prelude.{◌≡◌, ◌↔◌, ◌<◌, ◌≤◌, IfOk, IfSome, IsSome, IsTrue, None, OnErr, Some, false, length, slice_get};
 ghost use Rattle.nv_core.specs.Front.{HasTailMoved, rung_with, tails_of};
 ghost use Rattle.nv_core.specs.Held.{held_in};
 ghost use Rattle.nv_core.specs.Jobs.{holder_of, job_of};
+ghost use Rattle.nv_core.specs.Noted.{IsQuietAt};
 ghost use Rattle.nv_core.specs.Seat.{IsLoaded, bytes_told, is_long_load};
 ghost use Rattle.nv_core.specs.State.{CountsMore, IsOf, IsStep, world_of};
 ghost use Rattle.nv_core.specs.Submit.{IsCurrent};
+ghost use Rattle.nv_core.specs.Tags.{ended_in, flying_in, taken_in};
 ghost use Rattle.nv_laws_sound.specs.Counted.{IsCounted};
 ghost use Rattle.nv_world_model.specs.SetUp.{most_guests};
 
@@ -19,6 +21,7 @@ use nv_mem::{Bytes, NoMemory};
 use nv_model::limits::MOST_GUESTS;
 use nv_model::{Act, Reply};
 use nv_plan::{Job, Plan};
+use nv_tags::Group;
 use nv_world_model::Event;
 use std::alloc::Global;
 use std::slice;
@@ -219,6 +222,46 @@ impl Core {
             return 0;
         }
         self.front.held_by(lane, guest)
+    }
+
+    /// The tags of a lane whose commands wait for their plans, in order; none where there is no such lane.
+    #[inline]
+    pub fn taken(&self, lane: u8) -> Group
+        ensures { result ≡ taken_in (slice_get (world_of self.now).lanes lane) }
+    {
+        self.front.taken(lane)
+    }
+
+    /// The tags of a lane whose parts are with the physical controller, in order; none where there is no such lane.
+    #[inline]
+    pub fn flying(&self, lane: u8) -> Group
+        ensures { result ≡ flying_in (slice_get (world_of self.now).lanes lane) }
+    {
+        self.front.flying(lane)
+    }
+
+    /// The tags of a lane whose parts have ended, in order; none where there is no such lane.
+    #[inline]
+    pub fn ended(&self, lane: u8) -> Group
+        ensures { result ≡ ended_in (slice_get (world_of self.now).lanes lane) }
+    {
+        self.front.ended(lane)
+    }
+
+    /// Whether an event of a guest's admin queue or the taking of its commands may be due. Where not, none is, whatever is in memory.
+    #[inline]
+    pub fn is_noted(&self, guest: u8) -> bool
+        ensures { result ≡ false → IsQuietAt guest (world_of self.now).controllers }
+    {
+        self.front.is_noted(guest)
+    }
+
+    /// The guest isn't noted any more, where nothing is due of its queues whatever is in memory.
+    #[inline]
+    pub fn settle(&mut self, guest: u8)
+        ensures { self.new ≡ self.old }
+    {
+        self.front.settle(guest);
     }
 
     /// The job of a tag that was taken: its command, and a copy of what was read of its lists so far. `None` where

@@ -3,7 +3,7 @@
 ghost use Rattle.std.specs.Prelude.{◌≡◌, ◌<◌, ◌∷◌, ◌++◌, [], All, List, ℕ, None, OnErr, OnOk, Some, is_some, option_map, slice_get, true, vec_len};
 ghost use Rattle.nv_core.specs.Groups.{tags_changed};
 ghost use Rattle.nv_core.specs.Held.{held_in};
-ghost use Rattle.nv_core.specs.Tags.{IsReading, command_at, ended_in, is_flying, state_in, taken_in, unended, unled, untaken};
+ghost use Rattle.nv_core.specs.Tags.{IsReading, command_at, ended_in, flying_in, is_flying, state_in, taken_in, unended, unled, untaken};
 ghost use Rattle.nv_core.specs.declared.progress.Progress.TheVariants as progress;
 ghost use Rattle.nv_model.specs.Transcript.{ReadDone as Read};
 ghost use Rattle.nv_tags.specs.Tags.{command_of, set_each};
@@ -107,6 +107,15 @@ impl Lane {
         // With a field comes what is kept of the lane.
         let _known = &self.head;
         self.tags.taken()
+    }
+
+    /// The tags whose parts are with the physical controller, in order.
+    pub(crate) fn flying(&self) -> Group
+        ensures { result ≡ flying_in (Some self.now) }
+    {
+        // With a field comes what is kept of the lane.
+        let _known = &self.head;
+        self.tags.flying()
     }
 
     /// The tags whose parts have ended, in order.

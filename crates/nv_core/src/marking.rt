@@ -4,7 +4,7 @@ ghost use Rattle.std.specs.Prelude.{◌≡◌, ◌<◌, ◌||◌, length, nat_lt
 ghost use Rattle.nv_core.specs.Held.{held_in};
 ghost use Rattle.nv_core.specs.Kept.{IsLent};
 ghost use Rattle.nv_core.specs.Reaping.{waits_in};
-ghost use Rattle.nv_core.specs.Tags.{ended_in, taken_in};
+ghost use Rattle.nv_core.specs.Tags.{ended_in, flying_in, taken_in};
 ghost use Rattle.nv_world_model.specs.SetUp.{most_guests};
 
 use crate::front::Front;
@@ -37,6 +37,18 @@ impl Front {
             return true;
         }
         self.reap_due(layout, lane, host)
+    }
+
+    /// The tags of a lane whose parts are with the physical controller, in order; none where there is no such lane.
+    #[inline(always)]
+    pub fn flying(&self, lane: u8) -> Group
+        ensures { result ≡ flying_in (slice_get self.now.lanes lane) }
+    {
+        let at = usize::from(lane);
+        if at >= self.lanes.len() {
+            return Group::none();
+        }
+        self.lanes[at].flying()
     }
 
     /// The tags of a lane whose parts have ended, in order; none where there is no such lane.

@@ -7,6 +7,7 @@ pub mod Fails
 pub mod Failures
 pub mod HeldEvents
 pub mod HeldLanes
+pub mod InRow
 pub mod GivenUp
 pub mod ListJobs
 pub mod Made

@@ -3,6 +3,7 @@ use Rattle.std.proofs.Common.{◌≡◌, refl, sym, ap, ◌∙◌, ℕ, zero, su
 use Rattle.std.specs.List.{enumerate_from, filter}
 use Rattle.std.proofs.lemmas.Bool.{eq-eqb, lt-ltb}
 use Rattle.std.proofs.lemmas.Option.{none-some}
+use Rattle.nv_core.proofs.HeldTags.{in-front, numbers as numbered}
 use Rattle.nv_core.specs.Front.{Side}
 use Rattle.nv_core.specs.Jobs.{holder_in, job_in}
 use Rattle.nv_core.specs.Tags.{ended_in, is_ended, is_taken, taken_in}
@@ -16,6 +17,7 @@ use Rattle.nv_host.specs.Work.{NotDue, Rests, Scene}
 use Rattle.nv_host.specs.declared.worked.Scope.TheVariants as scope
 use Rattle.nv_laws_sound.proofs.Lists.{some-same}
 use Rattle.nv_model.specs.declared.reply.Reply.TheVariants as reply
+use Rattle.nv_plan.specs.declared.job.Job.{Job}
 use Rattle.nv_tags.proofs.Rows.{is_among}
 use Rattle.nv_world_model.specs.Due.{due}
 use Rattle.nv_world_model.specs.Geometry.{Geometry}
@@ -27,22 +29,9 @@ use Rattle.nv_world_model.specs.declared.event.Event.TheVariants as event
 
 -- ---- the tags of which a test holds
 
-abbrev numbered : (Tag → Bool) → (from : ℕ) → List Tag → List ℕ
-numbered test from tags = map (λ (u : ℕ × Tag). u.0) (filter (λ (u : ℕ × Tag). test u.1) (enumerate_from from tags))
-
 or-true : (b : Bool) → b || true ≡ true
 or-true true = refl
 or-true false = refl
-
--- one in front, or not
-in-front : (test : Tag → Bool) (from : ℕ) (u : Tag) (tags : List Tag) (b : Bool) → test u ≡ b
-    → numbered test from (u ∷ tags) ≡ cond b (from ∷ numbered test (from + 1) tags) (numbered test (from + 1) tags)
-in-front test from u tags true is =
-    let rest : List (ℕ × Tag) = filter (λ (v : ℕ × Tag). test v.1) (enumerate_from (from + 1) tags) in
-    ap (λ (x : Bool). map (λ (v : ℕ × Tag). v.0) (cond x ((from, u) ∷ rest) rest)) is
-in-front test from u tags false is =
-    let rest : List (ℕ × Tag) = filter (λ (v : ℕ × Tag). test v.1) (enumerate_from (from + 1) tags) in
-    ap (λ (x : Bool). map (λ (v : ℕ × Tag). v.0) (cond x ((from, u) ∷ rest) rest)) is
 
 -- one that is among the others is among all
 further : (test : Tag → Bool) (from : ℕ) (u : Tag) (tags : List Tag) (at : ℕ) → is_among (numbered test (from + 1) tags) at ≡ true → (b : Bool) → test u ≡ b
@@ -77,6 +66,44 @@ pub among-same : (of : Side → List ℕ) (f : Side) (h inside : Served) → ins
 among-same of f h inside view part tags are k out =
     ap (λ (x : Served). is_among (of x.side) k) (sym view) ∙ ap (λ (x : Side). is_among (of x) k) part ∙ sym (ap (λ (xs : List ℕ). is_among xs k) are) ∙ out
 
+-- ---- a tag that is not among those at a point
+
+pub job-not_taken : (o : Option Lane) (lane tag : ℕ) → is_among (taken_in o) tag ≡ false → (job : Job) → job_in lane tag (tag_in o tag) ≡ Some job → ⊥
+job-not_taken None lane tag out job is = none-some job is
+job-not_taken (Some l) lane tag out job is = by_tag (slice_get l.tags tag) refl is
+  where
+    by_tag : (t : Option Tag) → slice_get l.tags tag ≡ t → job_in lane tag t ≡ Some job → ⊥
+    by_tag None at is = none-some job is
+    by_tag (Some Free) at is = none-some job is
+    by_tag (Some (Taken command reads)) at is = out-fails is_taken l.tags tag (Taken command reads) out at refl
+    by_tag (Some (Flying command share standing)) at is = none-some job is
+    by_tag (Some (Ended command st share)) at is = none-some job is
+
+module _ (geometry : Geometry) (w : World) (lane tag : ℕ) where
+  abbrev post_by_tag : Option Tag → After
+  post_by_tag o =
+      for_ended tag o w (λ command.
+      for_owner (owner_of geometry w command.guest) w (λ (o : Owner).
+      post_all (statuses_of lane (group w lane tag) w) command geometry.mediator lane (group w lane tag) o w))
+
+  post-unended : (t : Option Tag) → tag_of w lane tag ≡ t → ((command : Command) (st : StatusField) (share : Option Share) → t ≡ Some (Ended command st share) → ⊥)
+      → due geometry (event.Post lane tag) w ≡ false
+  unfolding step
+  post-unended None at never = due-not geometry (event.Post lane tag) w (replied reply.Ignored w) (ap post_by_tag at) refl
+  post-unended (Some Free) at never = due-not geometry (event.Post lane tag) w (replied reply.Stale w) (ap post_by_tag at) refl
+  post-unended (Some (Taken command reads)) at never = due-not geometry (event.Post lane tag) w (replied reply.Stale w) (ap post_by_tag at) refl
+  post-unended (Some (Flying command share standing)) at never = due-not geometry (event.Post lane tag) w (replied reply.Stale w) (ap post_by_tag at) refl
+  post-unended (Some (Ended command st share)) at never = absurd (never command st share refl)
+
+  pub post-not_ended : is_among (ended_in (slice_get w.lanes lane)) tag ≡ false → due geometry (event.Post lane tag) w ≡ false
+  post-not_ended out =
+      post-unended (tag_of w lane tag) refl (λ command st share at. by_lane (slice_get w.lanes lane) out command st share at)
+    where
+      by_lane : (o : Option Lane) → is_among (ended_in o) tag ≡ false → (command : Command) (st : StatusField) (share : Option Share)
+          → tag_in o tag ≡ Some (Ended command st share) → ⊥
+      by_lane None out command st share at = none-some (Ended command st share) at
+      by_lane (Some l) out command st share at = out-fails is_ended l.tags tag (Ended command st share) out at refl
+
 -- ---- a command that waits
 
 module _ (s : Scene) (lane tag : ℕ) where
@@ -84,18 +111,7 @@ module _ (s : Scene) (lane tag : ℕ) where
   here = slice_get s.served.side.lanes lane
 
   pub not-taken : is_among (taken_in here) tag ≡ false → NothingWaitsAt s lane tag
-  not-taken out guest job given waits whose = by_lane here out waits.taken
-    where
-      by_tag : (l : Lane) → is_among (taken_in (Some l)) tag ≡ false → (t : Option Tag) → slice_get l.tags tag ≡ t → job_in lane tag t ≡ Some job → ⊥
-      by_tag l out None at is = none-some job is
-      by_tag l out (Some Free) at is = none-some job is
-      by_tag l out (Some (Taken command reads)) at is = out-fails is_taken l.tags tag (Taken command reads) out at refl
-      by_tag l out (Some (Flying command share standing)) at is = none-some job is
-      by_tag l out (Some (Ended command st share)) at is = none-some job is
-
-      by_lane : (o : Option Lane) → is_among (taken_in o) tag ≡ false → job_in lane tag (tag_in o tag) ≡ Some job → ⊥
-      by_lane None out is = none-some job is
-      by_lane (Some l) out is = by_tag l out (slice_get l.tags tag) refl is
+  not-taken out guest job given waits whose = job-not_taken here lane tag out job waits.taken
 
   -- nobody's command waits by a tag that nobody has
   pub nobody-waits : holder_in (tag_in here tag) ≡ None → NothingWaitsAt s lane tag
@@ -108,32 +124,9 @@ module _ (s : Scene) (lane tag : ℕ) where
       (let own = own-job lane tag (tag_in here tag) job waits.taken in
       none job given waits (sym (ap (λ (x : Holder). x.guest) (some-same h (let o : Holder = record { guest = job.guest; leader = tag } in o) (sym is ∙ own.holder)))))
 
-  -- ---- a command that has ended
-
-  module _ (geometry : Geometry) (w : World) where
-    abbrev post_by_tag : Option Tag → After
-    post_by_tag o =
-        for_ended tag o w (λ command.
-        for_owner (owner_of geometry w command.guest) w (λ (o : Owner).
-        post_all (statuses_of lane (group w lane tag) w) command geometry.mediator lane (group w lane tag) o w))
-
-    post-unended : (t : Option Tag) → tag_of w lane tag ≡ t → ((command : Command) (st : StatusField) (share : Option Share) → t ≡ Some (Ended command st share) → ⊥)
-        → due geometry (event.Post lane tag) w ≡ false
-    unfolding step
-    post-unended None at never = due-not geometry (event.Post lane tag) w (replied reply.Ignored w) (ap post_by_tag at) refl
-    post-unended (Some Free) at never = due-not geometry (event.Post lane tag) w (replied reply.Stale w) (ap post_by_tag at) refl
-    post-unended (Some (Taken command reads)) at never = due-not geometry (event.Post lane tag) w (replied reply.Stale w) (ap post_by_tag at) refl
-    post-unended (Some (Flying command share standing)) at never = due-not geometry (event.Post lane tag) w (replied reply.Stale w) (ap post_by_tag at) refl
-    post-unended (Some (Ended command st share)) at never = absurd (never command st share refl)
-
   pub not-ended : is_among (ended_in here) tag ≡ false → NotDue s (event.Post lane tag)
   not-ended out w on is =
-      (not-there s w (event.Post lane tag) tt on
-      (post-unended s.served.setup.geometry (placed s w) (tag_in here tag) refl (λ command st share at. by_lane here command st share out at)) is.1)
-    where
-      by_lane : (o : Option Lane) (command : Command) (st : StatusField) (share : Option Share) → is_among (ended_in o) tag ≡ false → tag_in o tag ≡ Some (Ended command st share) → ⊥
-      by_lane None command st share out at = none-some (Ended command st share) at
-      by_lane (Some l) command st share out at = out-fails is_ended l.tags tag (Ended command st share) out at refl
+      (not-there s w (event.Post lane tag) tt on (post-not_ended s.served.setup.geometry (placed s w) lane tag out) is.1)
 
 -- what has no news has neither
 pub no-part : (ended : List ℕ) (waits : Bool) → (nat_lt 0 (length ended) || waits) ≡ false → (waits ≡ false) × (ended ≡ [])

@@ -25,7 +25,7 @@ module _ (geometry : Geometry) (w : World) (guest : ℕ) where
   by_step QueueFull o quiet = refl
   by_step (Stepped c memory) o quiet = cc
 
-  admin-quiet : ((c : Controller) → slice_get w.controllers guest ≡ Some c → IsQuiet c) → due geometry (event.Admin guest) w ≡ false
+  pub admin-quiet : ((c : Controller) → slice_get w.controllers guest ≡ Some c → IsQuiet c) → due geometry (event.Admin guest) w ≡ false
   unfolding due step administered_in
   admin-quiet quiet = by (slice_get geometry.guests guest) (slice_get w.controllers guest) refl
     where
@@ -37,7 +37,7 @@ module _ (geometry : Geometry) (w : World) (guest : ℕ) where
           by_step (admin (shape_of given).mapped (shape_of given).blocks c (image (regions_of given) w.host)) (seat given c)
           ((quiet c at).admin (shape_of given).mapped (shape_of given).blocks (image (regions_of given) w.host))
 
-  take-quiet : (queue lane : ℕ) → ((c : Controller) → slice_get w.controllers guest ≡ Some c → is_io_queue queue ≡ true → front c queue ≡ None)
+  pub take-quiet : (queue lane : ℕ) → ((c : Controller) → slice_get w.controllers guest ≡ Some c → is_io_queue queue ≡ true → front c queue ≡ None)
       → due geometry (event.Take guest queue lane) w ≡ false
   unfolding due step
   take-quiet queue lane none = by (slice_get geometry.guests guest) (slice_get w.controllers guest) refl

@@ -7,7 +7,8 @@ use Rattle.nv_host.proofs.Works.{made-next, own-beside}
 use Rattle.nv_host.specs.Served.{IsNext, Served, has_share, is_offered}
 use Rattle.nv_host.specs.Shares.{is_within, most_given, most_needed, needed_of}
 use Rattle.nv_host.specs.Sharing.{IsWithin}
-use Rattle.nv_host.specs.Work.{AreMade, HasEnded, IsMade, IsWork, Leads, Scene}
+use Rattle.nv_host.specs.InRow.{AreMadeBy}
+use Rattle.nv_host.specs.Work.{HasEnded, IsMade, IsOneMade, IsWork, Leads, Scene}
 use Rattle.nv_host.specs.declared.worked.Scope.{Scope}
 use Rattle.nv_host.specs.declared.worked.Why.{Why}
 use Rattle.nv_host.specs.declared.worked.Why.TheVariants as why
@@ -75,11 +76,11 @@ module _ (guest lane : ℕ) where
 
   -- ---- a call
 
-  all-within : (sc : Scope) (es : List Event) (a b : Scene) → AreMade sc es a b → IsWithin guest lane a.served → IsWithin guest lane b.served
-  unfolding AreMade
+  all-within : (sc : Scope) (es : List Event) (a b : Scene) → AreMadeBy Scene (IsOneMade sc) es a b → IsWithin guest lane a.served → IsWithin guest lane b.served
+  unfolding AreMadeBy
   all-within sc [] a b made within = subst (λ (s : Scene). IsWithin guest lane s.served) (sym made) within
   all-within sc (e ∷ es) a b made within =
-      all-within sc es made.2 b made.4 (made-within e a made.1 made.2 made.3 (own-share sc a e made.0) within)
+      all-within sc es made.0 b made.2 (made-within e a made.1.reply made.0 made.1.made (own-share sc a e made.1.work) within)
 
   leads-within : (sc : Scope) (count : ℕ) (a b : Scene) → Leads sc count a b → IsWithin guest lane a.served → IsWithin guest lane b.served
   leads-within sc count a b leads within = all-within sc leads.events a b leads.made within
@@ -90,5 +91,5 @@ module _ (guest lane : ℕ) where
   ended-keeps sc most done enough why.Starved a b ended within = leads-within sc done a b ended.0 within
   ended-keeps sc most done enough why.GaveUp a b ended within =
       (let up = ended.0 in
-      made-within (event.GiveUp up.lane up.tag) up.before up.reply b up.made tt (leads-within sc up.less a up.before up.leads within))
+      made-within (event.GiveUp up.last.lane up.last.tag) up.before up.last.reply b up.last.made tt (leads-within sc up.less a up.before up.leads within))
   ended-keeps sc most done enough (why.Stray on) a b ended within = leads-within sc done a b ended.0 within

@@ -3,9 +3,11 @@ use Rattle.std.proofs.Common.{◌≡◌, refl, subst, ap, ◌∙◌, ℕ, ◌+�
 use Rattle.std.proofs.Common.{List, [], ◌∷◌, ◌++◌, length, length-append}
 use Rattle.nv_core.proofs.Sides.{own-side, own-world}
 use Rattle.nv_core.specs.Front.{IsBeside}
+use Rattle.nv_host.proofs.InRow.{give-by, leads-so, more-by, none-by, one-by, up-by, zero-by}
+use Rattle.nv_host.specs.InRow.{AreMadeBy}
 use Rattle.nv_host.specs.Passes.{MayGiveUp}
 use Rattle.nv_host.specs.Served.{IsNext, Served}
-use Rattle.nv_host.specs.Work.{AreMade, HasEnded, IsDue, IsMade, IsWork, Leads, LeadsUp, NotDue, Rests, Scene, scene}
+use Rattle.nv_host.specs.Work.{GivesUp, HasEnded, IsDue, IsMade, IsOneMade, IsWork, Leads, LeadsUp, NotDue, Rests, Scene, scene}
 use Rattle.nv_host.specs.declared.worked.Scope.{Scope}
 use Rattle.nv_host.specs.declared.worked.Scope.TheVariants as scope
 use Rattle.nv_host.specs.declared.worked.Why.{Why}
@@ -37,70 +39,31 @@ work-left sc s e is rests = due-somewhere s e is.due_now (rests e is.own)
 
 -- ---- events in a row
 
-joined : (sc : Scope) (es fs : List Event) (a b c : Scene) → AreMade sc es a b → AreMade sc fs b c → AreMade sc (es ++ fs) a c
-unfolding AreMade
-joined sc [] fs a b c first then = subst (λ (x : Scene). AreMade sc fs x c) first then
-joined sc (e ∷ es) fs a b c first then = (first.0, first.1, first.2, first.3, joined sc es fs first.2 b c first.4 then)
-
 -- nothing was done
 pub leads_none : (sc : Scope) (old new : Scene) → new ≡ old → Leads sc 0 old new
-unfolding AreMade
-leads_none sc old new same = record { events = []; made = same; counted = refl }
+leads_none sc = none-by Scene (IsOneMade sc)
 
 -- one event was made
 pub leads_one : (sc : Scope) (e : Event) (old new : Scene) (r : Reply) → IsWork sc old e → IsMade e old r new → Leads sc 1 old new
-unfolding AreMade
-leads_one sc e old new r is made = record { events = e ∷ []; made = (is, r, new, made, refl); counted = refl }
+leads_one sc e old new r is made = one-by Scene (IsOneMade sc) e old new (record { work = is; reply = r; made = made })
 
 -- and more after these
 pub leads_more : (sc : Scope) (m n : ℕ) (a b c : Scene) → Leads sc m a b → Leads sc n b c → Leads sc (m + n) a c
-leads_more sc m n a b c first then =
-    record {
-      events = first.events ++ then.events;
-      made = joined sc first.events then.events a b c first.made then.made;
-      counted = length-append first.events then.events ∙ (let one = first.counted in let two = then.counted in omega (arith, one, two));
-    }
+leads_more sc = more-by Scene (IsOneMade sc)
 
 -- none lead nowhere
 pub leads_zero : (sc : Scope) (a b : Scene) (count : ℕ) → Leads sc count a b → count ≡ 0 → b ≡ a
-unfolding AreMade
-leads_zero sc a b count leads none = nowhere leads.events leads.made (leads.counted ∙ none)
-  where
-    nowhere : (es : List Event) → AreMade sc es a b → length es ≡ 0 → b ≡ a
-    nowhere [] made none = made
-    nowhere (e ∷ es) made none = absurd (omega (arith, none))
+leads_zero sc a b count = zero-by Scene (IsOneMade sc) count a b
 
 -- a command was given up after some
 pub leads_up : (sc : Scope) (m n : ℕ) (a b c : Scene) → Leads sc m a b → LeadsUp sc n b c → LeadsUp sc (m + n) a c
-leads_up sc m n a b c first up =
-    record {
-      less = m + up.less;
-      before = up.before;
-      leads = leads_more sc m up.less a b up.before first up.leads;
-      counted = (let one = up.counted in omega (arith, one));
-      lane = up.lane;
-      tag = up.tag;
-      own = up.own;
-      waits = up.waits;
-      reply = up.reply;
-      made = up.made;
-    }
+leads_up sc = up-by Scene (IsOneMade sc) (GivesUp sc)
 
 pub leads_give : (guest lane tag : ℕ) (a b : Scene) (r : Reply) → MayGiveUp guest a lane tag → IsMade (event.GiveUp lane tag) a r b
     → LeadsUp (scope.Guest guest) 1 a b
 leads_give guest lane tag a b r may made =
-    record {
-      less = 0;
-      before = a;
-      leads = leads_none (scope.Guest guest) a a refl;
-      counted = refl;
-      lane = lane;
-      tag = tag;
-      own = may.own;
-      waits = may.waits;
-      reply = r;
-      made = made;
-    }
+    give-by Scene (IsOneMade (scope.Guest guest)) (GivesUp (scope.Guest guest)) a b
+    (record { lane = lane; tag = tag; own = may.own; waits = may.waits; reply = r; made = made })
 
 -- ---- what stays
 
@@ -118,10 +81,10 @@ stays-next e a r b z made then =
     let next = made-next e a r b made in
     record { closed = then.closed ∙ next.closed; spare = then.spare ∙ next.spare }
 
-leads-stays : (sc : Scope) (es : List Event) (a b : Scene) → AreMade sc es a b → StaysSo a.served b.served
-unfolding AreMade
+leads-stays : (sc : Scope) (es : List Event) (a b : Scene) → AreMadeBy Scene (IsOneMade sc) es a b → StaysSo a.served b.served
+unfolding AreMadeBy
 leads-stays sc [] a b made = record { closed = ap (λ (x : Scene). x.served.closed) made; spare = ap (λ (x : Scene). x.served.spare) made }
-leads-stays sc (e ∷ es) a b made = stays-next e a made.1 made.2 b.served made.3 (leads-stays sc es made.2 b made.4)
+leads-stays sc (e ∷ es) a b made = stays-next e a made.1.reply made.0 b.served made.1.made (leads-stays sc es made.0 b made.2)
 
 pub ended-stays : (sc : Scope) (most done : ℕ) (enough : Type 0) (y : Why) (a b : Scene) → HasEnded sc most done enough y a b
     → StaysSo a.served b.served
@@ -130,7 +93,7 @@ ended-stays sc most done enough why.Starved a b ended = leads-stays sc ended.0.e
 ended-stays sc most done enough why.GaveUp a b ended =
     let up = ended.0 in
     let before = leads-stays sc up.leads.events a up.before up.leads.made in
-    let next = made-next (event.GiveUp up.lane up.tag) up.before up.reply b up.made in
+    let next = made-next (event.GiveUp up.last.lane up.last.tag) up.before up.last.reply b up.last.made in
     record { closed = next.closed ∙ before.closed; spare = next.spare ∙ before.spare }
 ended-stays sc most done enough (why.Stray lane) a b ended = leads-stays sc ended.0.events a b ended.0.made
 
@@ -178,30 +141,21 @@ ended-within sc few most done rest (why.Stray lane) a b ended more = (ended.0, (
 
 -- ---- a guest's or a lane's events are events of all
 
-own-all : (sc : Scope) (s : Scene) (e : Event) → IsWork sc s e → IsWork scope.All s e
-own-all sc s e is = record { own = tt; due_now = is.due_now }
-
-made-all : (sc : Scope) (es : List Event) (a b : Scene) → AreMade sc es a b → AreMade scope.All es a b
-unfolding AreMade
-made-all sc [] a b made = made
-made-all sc (e ∷ es) a b made = (own-all sc a e made.0, made.1, made.2, made.3, made-all sc es made.2 b made.4)
+own-all : (sc : Scope) (e : Event) (a b : Scene) → IsOneMade sc e a b → IsOneMade scope.All e a b
+own-all sc e a b is = record { work = record { own = tt; due_now = is.work.due_now }; reply = is.reply; made = is.made }
 
 leads-all : (sc : Scope) (count : ℕ) (a b : Scene) → Leads sc count a b → Leads scope.All count a b
-leads-all sc count a b leads = record { events = leads.events; made = made-all sc leads.events a b leads.made; counted = leads.counted }
+leads-all sc = leads-so Scene (IsOneMade sc) (IsOneMade scope.All) (own-all sc)
 
 up-all : (sc : Scope) (count : ℕ) (a b : Scene) → LeadsUp sc count a b → LeadsUp scope.All count a b
 up-all sc count a b up =
+    let last = up.last in
     record {
       less = up.less;
       before = up.before;
       leads = leads-all sc up.less a up.before up.leads;
       counted = up.counted;
-      lane = up.lane;
-      tag = up.tag;
-      own = tt;
-      waits = up.waits;
-      reply = up.reply;
-      made = up.made;
+      last = record { lane = last.lane; tag = last.tag; own = tt; waits = last.waits; reply = last.reply; made = last.made };
     }
 
 pub ended-all : (sc : Scope) (most done : ℕ) (enough : Type 0) (y : Why) (a b : Scene) → HasEnded sc most done enough y a b

@@ -1,8 +1,9 @@
 -- What `HostMediator::work` does: what is due of a scope, event by event, until nothing is or as many were made as were asked for (profile).
-use Rattle.std.specs.Prelude.{◌≡◌, ◌+◌, ◌<◌, ◌≤◌, ◌&&◌, ℕ, ⊤, Bool, true, List, [], ◌∷◌, length, slice_get, IsSome, Option, Some, None, option_map}
+use Rattle.std.specs.Prelude.{◌≡◌, ◌+◌, ◌<◌, ◌≤◌, ◌&&◌, ℕ, ⊤, Bool, true, List, length, slice_get, IsSome, Option, Some, None, option_map}
 use Rattle.nv_core.specs.Front.{IsBeside, IsReaped}
 use Rattle.nv_core.specs.Jobs.{holder_in, job_in}
 use Rattle.nv_core.specs.Reaping.{answer_of, waits_in}
+use Rattle.nv_host.specs.InRow.{LeadsBy, LeadsUpBy}
 use Rattle.nv_host.specs.Served.{IsDone, IsNext, IsUnreached, Served, has_share, is_offered}
 use Rattle.nv_host.specs.declared.worked.Scope.{Scope}
 use Rattle.nv_host.specs.declared.worked.Scope.TheVariants as scope
@@ -102,29 +103,28 @@ abbrev pub IsMade : Event → (old : Scene) → Reply → (new : Scene) → Type
 IsMade (event.Reap lane) old r new = IsRead lane old r new
 IsMade e old r new = IsDone e old.served old.memory r new.served new.memory
 
--- these events lead from one scene to the other, each of them work when it is made
-unfoldable pub AreMade : Scope → List Event → (old new : Scene) → Type 0
-AreMade sc [] old new = new ≡ old
-AreMade sc (e ∷ es) old new = IsWork sc old e × (r : Reply) × (between : Scene) × IsMade e old r between × AreMade sc es between new
+-- an event was made that was work then
+pub record IsOneMade (sc : Scope) (e : Event) (old new : Scene) : Type 0 where
+  pub work : IsWork sc old e
+  pub reply : Reply
+  pub made : IsMade e old reply new
 
--- so many do
-pub record Leads (sc : Scope) (count : ℕ) (old new : Scene) : Type 0 where
-  pub events : List Event
-  pub made : AreMade sc events old new
-  pub counted : length events ≡ count
+-- so many lead from one scene to the other
+abbrev pub Leads : Scope → (count : ℕ) → (old new : Scene) → Type 0
+Leads sc count old new = LeadsBy Scene (IsOneMade sc) count old new
 
--- so many do, of which the last gives a command of the scope up that waits for its plan
-pub record LeadsUp (sc : Scope) (count : ℕ) (old new : Scene) : Type 0 where
-  pub less : ℕ
-  pub before : Scene
-  pub leads : Leads sc less old before
-  pub counted : count ≡ less + 1
+-- a command of the scope was given up that waited for its plan
+pub record GivesUp (sc : Scope) (old new : Scene) : Type 0 where
   pub lane : ℕ
   pub tag : ℕ
-  pub own : IsIn sc before (event.GiveUp lane tag)
-  pub waits : IsSome (job_in lane tag (tag_in (slice_get before.served.side.lanes lane) tag))
+  pub own : IsIn sc old (event.GiveUp lane tag)
+  pub waits : IsSome (job_in lane tag (tag_in (slice_get old.served.side.lanes lane) tag))
   pub reply : Reply
-  pub made : IsMade (event.GiveUp lane tag) before reply new
+  pub made : IsMade (event.GiveUp lane tag) old reply new
+
+-- so many lead there, of which the last gives such a command up
+abbrev pub LeadsUp : Scope → (count : ℕ) → (old new : Scene) → Type 0
+LeadsUp sc count old new = LeadsUpBy Scene (IsOneMade sc) (GivesUp sc) count old new
 
 -- a completion of a lane of the scope names no command that the drive has, and no log leads there
 pub record IsStray (sc : Scope) (s : Scene) (lane : ℕ) : Type 0 where

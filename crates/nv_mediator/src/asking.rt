@@ -1,11 +1,13 @@
 //! What is asked of the mediator: nothing changes.
 
-ghost use Rattle.std.specs.Prelude.{◌≡◌, ◌<◌, ◌≤◌, ◌↔◌, IfOk, IfSome, IsSome, IsTrue, MatchOption, None, OnErr, Some, length, slice_get};
+ghost use Rattle.std.specs.Prelude.{◌≡◌, ◌<◌, ◌≤◌, ◌↔◌, IfOk, IfSome, IsSome, IsTrue, MatchOption, None, OnErr, Some, false, length, slice_get};
 ghost use Rattle.nv_core.specs.Held.{held_in};
 ghost use Rattle.nv_core.specs.Jobs.{holder_of, job_of};
+ghost use Rattle.nv_core.specs.Noted.{IsQuietAt};
 ghost use Rattle.nv_core.specs.Shown.{IsBlock, mark_shown};
 ghost use Rattle.nv_core.specs.State.{world_of};
 ghost use Rattle.nv_core.specs.Submit.{IsLimit};
+ghost use Rattle.nv_core.specs.Tags.{ended_in, flying_in, taken_in};
 ghost use Rattle.nv_device.specs.Units.{IsLowest};
 ghost use Rattle.nv_mediator.specs.Hosted.{limit_of, map_of, range_of, setup_of};
 ghost use Rattle.nv_model.specs.Memory.{byte_in};
@@ -18,6 +20,7 @@ use nv_mem::{GuestMap, Host, NoMemory};
 use nv_model::limits::BLOCK_SIZE;
 use nv_ns::VirtualNs;
 use nv_plan::Job;
+use nv_tags::Group;
 use nv_world_model::Event;
 use std::alloc::Global;
 
@@ -121,6 +124,46 @@ impl Mediator {
         ensures none { most_guests ≤ guest → result ≡ 0 }
     {
         self.core.held_by(lane, guest)
+    }
+
+    /// The tags of a lane whose commands wait for their plans, in order; none where there is no such lane.
+    #[inline]
+    pub fn taken(&self, lane: u8) -> Group
+        ensures { result ≡ taken_in (slice_get (world_of self.now.state).lanes lane) }
+    {
+        self.core.taken(lane)
+    }
+
+    /// The tags of a lane whose parts are with the physical controller, in order; none where there is no such lane.
+    #[inline]
+    pub fn flying(&self, lane: u8) -> Group
+        ensures { result ≡ flying_in (slice_get (world_of self.now.state).lanes lane) }
+    {
+        self.core.flying(lane)
+    }
+
+    /// The tags of a lane whose parts have ended, in order; none where there is no such lane.
+    #[inline]
+    pub fn ended(&self, lane: u8) -> Group
+        ensures { result ≡ ended_in (slice_get (world_of self.now.state).lanes lane) }
+    {
+        self.core.ended(lane)
+    }
+
+    /// Whether an event of a guest's admin queue or the taking of its commands may be due. Where not, none is, whatever is in memory.
+    #[inline]
+    pub fn is_noted(&self, guest: u8) -> bool
+        ensures { result ≡ false → IsQuietAt guest (world_of self.now.state).controllers }
+    {
+        self.core.is_noted(guest)
+    }
+
+    /// The guest isn't noted any more, where nothing is due of its queues whatever is in memory. Nothing else changes.
+    #[inline]
+    pub fn settle(&mut self, guest: u8)
+        ensures { self.new ≡ self.old }
+    {
+        self.core.settle(guest);
     }
 
     /// The host's memory: the guests' memory, by their maps, the mediator's area, and what is nobody's.

@@ -201,6 +201,7 @@ pub stage-ended : {A : Type 0} (given : Guest) (entry : List ℕ) (s : Stage A) 
 unfolding in_transcript read_source and_then
 stage-ended given entry (stage.Refused st) sound next = (Refuse st, λ reads. refl)
 stage-ended given entry (stage.Bare o) sound next = (Go (work_of (blocks_in given.namespace) o entry [] []), λ reads. refl)
+stage-ended given entry (stage.Named b runs) sound next = list-ended given entry b (End (Spells runs)) want.Done refl sound next
 stage-ended given entry (stage.Pages b parse) sound next = list-ended given entry b (pages_of parse.value) (want_of (pages_of parse.value)) refl sound next
 stage-ended given entry (stage.Descriptors b parse) sound next = list-ended given entry b (descriptors_of parse) (want_of (descriptors_of parse)) refl sound next
 stage-ended given entry (stage.Ranges source) sound next = (

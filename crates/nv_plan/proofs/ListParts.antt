@@ -18,6 +18,7 @@ use Rattle.nv_model.specs.Want.{want_of}
 use Rattle.nv_model.specs.declared.want.Want.TheVariants as want
 use Rattle.nv_model.proofs.AskedOften.{read_prp-often, read_sgl-often}
 use Rattle.nv_model.proofs.Endings.{EndsIn, OfPieces}
+use Rattle.nv_model.proofs.Spelled.{read_prp-sized}
 use Rattle.nv_model.proofs.ListsFed.{AreSpelled, EndsIn-fed, IsListAhead, IsListAhead-done, IsListAhead-more, IsListAhead-start, judged-met}
 use Rattle.nv_ns.specs.Extents.{blocks_in}
 use Rattle.nv_world_model.specs.Geometry.{Guest, regions_of}
@@ -39,6 +40,15 @@ pages-list regions limit need entry d prp1 prp2 len pointer dialogue same_prp1 s
     ∙ ap (λ (p : ℕ). and_then (read_prp (mapped regions) (prp1_of entry) p len) (λ reading. End (sized len reading))) same_prp2
     ∙ ap (λ (n : ℕ). and_then (read_prp (mapped regions) (prp1_of entry) (prp2_of entry) n) (λ reading. End (sized n reading))) same_len
     ∙ ap (λ (p : DataPointer). list_of p regions limit need entry) (sym pointer)
+
+-- where PRP1 and PRP2 name its end, no list is read
+pub named-list : (regions : List Region) (limit : ℕ) (need : Need) (entry : List ℕ) (reading : Reading) (prp1 prp2 len : ℕ)
+    → data_pointer (psdt_of entry) ≡ Prp
+    → read_prp (mapped regions) prp1 prp2 len ≡ End reading
+    → prp1 ≡ prp1_of entry → prp2 ≡ prp2_of entry → len ≡ need.bytes
+    → End reading ≡ list_of (data_pointer (psdt_of entry)) regions limit need entry
+named-list regions limit need entry reading prp1 prp2 len pointer ended same_prp1 same_prp2 same_len =
+    pages-list regions limit need entry (End reading) prp1 prp2 len pointer (sym ended ∙ sym (read_prp-sized (mapped regions) prp1 prp2 len)) same_prp1 same_prp2 same_len
 
 -- and of one whose holds a descriptor
 pub descriptors-list : (regions : List Region) (limit : ℕ) (need : Need) (entry : List ℕ) (d : Dialogue Reading) (own : List ℕ) (len : ℕ)

@@ -8,6 +8,7 @@ use Rattle.nv_entry.specs.Submission.{psdt_of, slba_of}
 use Rattle.nv_entry.specs.declared.data_pointer.DataPointer.TheVariants.{Reserved}
 use Rattle.nv_entry.specs.declared.opcode.IoOpcode.{IoOpcode}
 use Rattle.nv_entry.specs.declared.opcode.IoOpcode.TheVariants.{Compare, DatasetManagement, Flush, Read, Write, WriteZeroes}
+use Rattle.nv_entry.specs.declared.status_code.StatusCode.{StatusCode}
 use Rattle.nv_entry.specs.declared.status_code.StatusCode.TheVariants.{InternalError, InvalidField}
 use Rattle.nv_judge.proofs.FieldLemmas.{in-namespace}
 use Rattle.nv_judge.specs.declared.need.Need.{Need}
@@ -18,7 +19,7 @@ use Rattle.nv_mem.specs.declared.piece.Piece.TheVariants.{Run}
 use Rattle.nv_model.specs.Dialogue.{Dialogue, End, and_then}
 use Rattle.nv_model.specs.Judge.{Refuse, Transfer, Verdict, count_of, form_has_blocks, form_of, has_buffer, judge, judge_ranges, judge_reading, range_count_of, ranges_in, read_source}
 use Rattle.nv_model.specs.Laws.{IsMappedPiece}
-use Rattle.nv_model.specs.Reading.{Reading, Spells}
+use Rattle.nv_model.specs.Reading.{Reading, Faulty, Spells}
 use Rattle.nv_model.specs.Transcript.{Outcome, ReadDone, Settled, Wanted, first_read, in_transcript}
 use Rattle.nv_model.specs.Want.{want_of}
 use Rattle.nv_model.specs.declared.want.Want.{Want}
@@ -58,6 +59,16 @@ left-reserved given entry opcode need st known buffer pointer same =
     ∙ left-listed given entry opcode need (list_of Reserved (regions_of given) given.limit need entry) known buffer
     (reserved-list (regions_of given) given.limit need entry pointer)
 
+-- and so is one by PRP that is faulty before a list
+pub left-fault : (given : Guest) (entry : List ℕ) (opcode : IoOpcode) (need : Need) (code : StatusCode) (st : StatusField)
+    → IsKnown given entry opcode need → has_buffer opcode ≡ true
+    → End (Faulty code) ≡ list_of (data_pointer (psdt_of entry)) (regions_of given) given.limit need entry → st ≡ refused_with code
+    → End (Refuse st) ≡ judge (mapped (regions_of given)) given.limit (blocks_in given.namespace) entry
+unfolding and_then
+left-fault given entry opcode need code st known buffer is same =
+    ap (λ (s : StatusField). End (Refuse s)) same
+    ∙ left-listed given entry opcode need (End (Faulty code)) known buffer is
+
 -- ---- what comes next, by what the parse wants
 
 pub next-read : (opcode : IoOpcode) (w : Want) (addr len : ℕ) → next_of opcode w ≡ ahead.Read addr len → w ≡ want.Read addr len
@@ -70,6 +81,10 @@ next-read Read want.Done addr len e = absurd (cc)
 next-read Compare want.Done addr len e = absurd (cc)
 next-read WriteZeroes want.Done addr len e = absurd (cc)
 next-read DatasetManagement want.Done addr len e = absurd (cc)
+
+-- no part of a list is read where PRP1 and PRP2 name all pages
+named-no_read : (opcode : IoOpcode) (addr len : ℕ) → next_of opcode want.Done ≡ ahead.Read addr len → ⊥
+named-no_read opcode addr len next = let read : want.Done ≡ want.Read addr len = next-read opcode want.Done addr len next in (cc)
 
 pub next-turn : (opcode : IoOpcode) (w : Want) → next_of opcode w ≡ ahead.Turn → (w ≡ want.Done) × (opcode ≡ DatasetManagement)
 next-turn opcode (want.Read a n) e = absurd (cc)
@@ -216,6 +231,7 @@ pub stage-wanted : {A : Type 0} (given : Guest) (entry : List ℕ) (s : Stage A)
     → in_transcript (ahead_at (blocks_in given.namespace) entry s) [] reads ≡ Wanted addr len
 stage-wanted given entry (stage.Refused st) addr len reads sound next none = absurd (cc)
 stage-wanted given entry (stage.Bare opcode) addr len reads sound next none = absurd (cc)
+stage-wanted given entry (stage.Named b runs) addr len reads sound next none = absurd (named-no_read b.opcode addr len next)
 stage-wanted given entry (stage.Pages b parse) addr len reads sound next none =
     judged-wanted (blocks_in given.namespace) entry b.opcode (pages_of parse.value) addr len reads (next-read b.opcode (want_of (pages_of parse.value)) addr len next) none
 stage-wanted given entry (stage.Descriptors b parse) addr len reads sound next none =
@@ -231,6 +247,7 @@ stage-wanted given entry (stage.Ranges source) addr len reads sound next none =
 pub stage-turn : {A : Type 0} (s : Stage A) → next_at s ≡ ahead.Turn → want_at s ≡ want.Done
 stage-turn (stage.Refused st) next = absurd (cc)
 stage-turn (stage.Bare opcode) next = absurd (cc)
+stage-turn (stage.Named b runs) next = refl
 stage-turn (stage.Pages b parse) next = (next-turn b.opcode (want_of (pages_of parse.value)) next).0
 stage-turn (stage.Descriptors b parse) next = (next-turn b.opcode (want_of (descriptors_of parse)) next).0
 stage-turn (stage.Ranges source) next = absurd (front-no_turn (left_of source) next)
@@ -241,6 +258,9 @@ pub stage-turned : {A : Type 0} (given : Guest) (entry : List ℕ) (s : Stage A)
     → IsSoundStage {A = A} given entry (stage.Ranges source) × (ahead_at {A = A} (blocks_in given.namespace) entry (stage.Ranges source) ≡ ahead_at (blocks_in given.namespace) entry s)
 stage-turned given entry (stage.Refused st) pieces source sound next spelled places none bytes = absurd spelled
 stage-turned given entry (stage.Bare opcode) pieces source sound next spelled places none bytes = absurd spelled
+stage-turned given entry (stage.Named b runs) pieces source sound next spelled places none bytes =
+    let turn = next-turn b.opcode want.Done next in
+    (source-start given entry b (End (Spells runs)) pieces source sound turn.1 spelled places none bytes, source-left given entry b (End (Spells runs)) pieces source turn.1 spelled places none bytes)
 stage-turned given entry (stage.Pages b parse) pieces source sound next spelled places none bytes =
     let turn = next-turn b.opcode (want_of (pages_of parse.value)) next in
     (source-start given entry b (pages_of parse.value) pieces source sound turn.1 spelled places none bytes, source-left given entry b (pages_of parse.value) pieces source turn.1 spelled places none bytes)
@@ -306,6 +326,7 @@ pub stage-transfers : {A : Type 0} (given : Guest) (entry : List ℕ) (s : Stage
     → IsTransfer given entry pieces (ahead_at (blocks_in given.namespace) entry s)
 stage-transfers given entry (stage.Refused st) pieces sound next done spelled = absurd spelled
 stage-transfers given entry (stage.Bare opcode) pieces sound next done spelled = absurd spelled
+stage-transfers given entry (stage.Named b runs) pieces sound next done spelled = list-transfers given entry b (End (Spells runs)) pieces sound next refl spelled
 stage-transfers given entry (stage.Pages b parse) pieces sound next done spelled = list-transfers given entry b (pages_of parse.value) pieces sound next done spelled
 stage-transfers given entry (stage.Descriptors b parse) pieces sound next done spelled = list-transfers given entry b (descriptors_of parse) pieces sound next done spelled
 stage-transfers given entry (stage.Ranges source) pieces sound next done spelled = absurd spelled
@@ -317,6 +338,7 @@ pub stage-fault : {A : Type 0} (given : Guest) (entry : List ℕ) (s : Stage A) 
     ≡ outlined given.namespace entry (planned (regions_of given) (in_transcript (ahead_at (blocks_in given.namespace) entry s) [] reads))
 stage-fault given entry (stage.Refused st') st reads wanted = absurd (cc)
 stage-fault given entry (stage.Bare opcode) st reads wanted = absurd (cc)
+stage-fault given entry (stage.Named b runs) st reads wanted = absurd (cc)
 stage-fault given entry (stage.Pages b parse) st reads wanted = fault-says given entry b.opcode (pages_of parse.value) st reads wanted
 stage-fault given entry (stage.Descriptors b parse) st reads wanted = fault-says given entry b.opcode (descriptors_of parse) st reads wanted
 stage-fault given entry (stage.Ranges source) st reads wanted = absurd (cc)
@@ -324,6 +346,7 @@ stage-fault given entry (stage.Ranges source) st reads wanted = absurd (cc)
 pub stage-read : {A : Type 0} (s : Stage A) (addr len : ℕ) → want_at s ≡ want.Read addr len → next_at s ≡ ahead.End → ⊥
 stage-read (stage.Refused st') addr len wanted next = (cc)
 stage-read (stage.Bare opcode) addr len wanted next = (cc)
+stage-read (stage.Named b runs) addr len wanted next = (cc)
 stage-read (stage.Pages b parse) addr len wanted next = next-no_read b.opcode (want_of (pages_of parse.value)) addr len wanted next
 stage-read (stage.Descriptors b parse) addr len wanted next = next-no_read b.opcode (want_of (descriptors_of parse)) addr len wanted next
 stage-read (stage.Ranges source) addr len wanted next = (cc)
@@ -335,6 +358,7 @@ pub stage-too_long : {A : Type 0} (given : Guest) (entry : List ℕ) (s : Stage 
     ≡ outlined given.namespace entry (planned (regions_of given) (in_transcript (ahead_at (blocks_in given.namespace) entry s) [] reads))
 stage-too_long given entry (stage.Refused st') st reads reading wanted same = absurd reading
 stage-too_long given entry (stage.Bare opcode) st reads reading wanted same = absurd reading
+stage-too_long given entry (stage.Named b runs) st reads reading wanted same = absurd (cc)
 stage-too_long given entry (stage.Pages b parse) st reads reading wanted same =
     ap (λ (x : StatusField). Settled (record { kind = kind.Answer x; portions = [] })) same ∙ too_long-says given entry b.opcode (pages_of parse.value) reads wanted
 stage-too_long given entry (stage.Descriptors b parse) st reads reading wanted same =

@@ -68,6 +68,7 @@ pub record IsAsBefore (old new : Source) : Type 0 where
 abbrev pub ahead_at : {A : Type 0} → (blocks : ℕ) → List ℕ → Stage A → Dialogue Verdict
 ahead_at blocks entry (stage.Refused st) = End (Refuse st)
 ahead_at blocks entry (stage.Bare opcode) = End (Go (work_of blocks opcode entry [] []))
+ahead_at blocks entry (stage.Named b runs) = and_then (End (Spells runs)) (judge_reading blocks entry b.opcode)
 ahead_at blocks entry (stage.Pages b parse) = and_then (pages_of parse.value) (judge_reading blocks entry b.opcode)
 ahead_at blocks entry (stage.Descriptors b parse) = and_then (descriptors_of parse) (judge_reading blocks entry b.opcode)
 ahead_at blocks entry (stage.Ranges source) =
@@ -99,6 +100,7 @@ front_of (piece.Bucket len ∷ pieces) = ahead.End
 abbrev pub next_at : {A : Type 0} → Stage A → Ahead
 next_at (stage.Refused st) = ahead.End
 next_at (stage.Bare opcode) = ahead.End
+next_at (stage.Named b runs) = next_of b.opcode want.Done
 next_at (stage.Pages b parse) = next_of b.opcode (want_of (pages_of parse.value))
 next_at (stage.Descriptors b parse) = next_of b.opcode (want_of (descriptors_of parse))
 next_at (stage.Ranges source) = front_of (left_of source)
@@ -112,6 +114,7 @@ ahead_of next.Done = ahead.End
 abbrev pub want_at : {A : Type 0} → Stage A → Want
 want_at (stage.Refused st) = want.TooLong
 want_at (stage.Bare opcode) = want.TooLong
+want_at (stage.Named b runs) = want.Done
 want_at (stage.Pages b parse) = want_of (pages_of parse.value)
 want_at (stage.Descriptors b parse) = want_of (descriptors_of parse)
 want_at (stage.Ranges source) = want.TooLong
@@ -120,6 +123,7 @@ want_at (stage.Ranges source) = want.TooLong
 abbrev pub IsReadingList : {A : Type 0} → Stage A → Type 0
 IsReadingList (stage.Refused st) = ⊥
 IsReadingList (stage.Bare opcode) = ⊥
+IsReadingList (stage.Named b runs) = ⊤
 IsReadingList (stage.Pages b parse) = ⊤
 IsReadingList (stage.Descriptors b parse) = ⊤
 IsReadingList (stage.Ranges source) = ⊥
@@ -128,6 +132,7 @@ IsReadingList (stage.Ranges source) = ⊥
 abbrev pub IsSpelledBy : {A : Type 0} → Stage A → List Piece → Type 0
 IsSpelledBy (stage.Refused st) pieces = ⊥
 IsSpelledBy (stage.Bare opcode) pieces = ⊥
+IsSpelledBy (stage.Named b runs) pieces = End (Spells runs) ≡ End (Spells pieces)
 IsSpelledBy (stage.Pages b parse) pieces = pages_of parse.value ≡ End (Spells pieces)
 IsSpelledBy (stage.Descriptors b parse) pieces = descriptors_of parse ≡ End (Spells pieces)
 IsSpelledBy (stage.Ranges source) pieces = ⊥
@@ -156,6 +161,7 @@ pub record IsSource (given : Guest) (entry : List ℕ) (source : Source) : Type 
 abbrev pub IsSoundStage : {A : Type 0} → Guest → List ℕ → Stage A → Type 0
 IsSoundStage given entry (stage.Refused st) = ⊤
 IsSoundStage given entry (stage.Bare opcode) = IsKnown given entry opcode (need_of entry opcode) × (has_buffer opcode ≡ false)
+IsSoundStage given entry (stage.Named b runs) = IsListed given entry b (End (Spells runs))
 IsSoundStage given entry (stage.Pages b parse) = IsListed given entry b (pages_of parse.value)
 IsSoundStage given entry (stage.Descriptors b parse) = IsListed given entry b (descriptors_of parse)
 IsSoundStage given entry (stage.Ranges source) = IsSource given entry source

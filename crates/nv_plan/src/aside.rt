@@ -19,7 +19,7 @@ use std::marker::Model;
 /// How far the reading of a command's lists has come, without the guest's map.
 #[derive(Drop)]
 pub(crate) enum Rest<A: Allocator + Clone> {
-    /// The pages that PRP1 and PRP2 name are read.
+    /// The list to which PRP2 points is read.
     Pages(Buffered, PrpRest),
     /// The descriptors of its SGL are read.
     Descriptors(Buffered, SglRest<A>),
@@ -78,7 +78,7 @@ impl<'a> GrantRef<'a> {
                 Some(Rest::Descriptors(buffered, rest))
             }
             Stage::Ranges(source) => Some(Rest::Ranges(source)),
-            Stage::Refused(_) | Stage::Bare(_) => None,
+            Stage::Refused(_) | Stage::Bare(_) | Stage::Named(_, _) => None,
         }
     }
 

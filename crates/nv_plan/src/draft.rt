@@ -1,6 +1,9 @@
 //! What is read before a command can be planned: how far that has come, what is wanted next, and what the plan says in the end.
 
 ghost use Rattle.std.specs.Prelude.{◌≡◌, ◌<◌, ℕ, IfOk, OnErr, OnOk, length, true};
+ghost use Rattle.nv_entry.specs.Opcode.{data_pointer};
+ghost use Rattle.nv_entry.specs.Submission.{psdt_of};
+ghost use Rattle.nv_entry.specs.declared.data_pointer.DataPointer.TheVariants as pointer;
 ghost use Rattle.nv_mem.specs.GuestMap.{mapped};
 ghost use Rattle.nv_model.specs.Judge.{has_buffer, judge};
 ghost use Rattle.nv_ns.specs.Extents.{blocks_in};
@@ -21,7 +24,7 @@ use nv_judge::{Need, judge_fields};
 use nv_mem::{NoMemory, Places};
 use nv_model::Want;
 use nv_model::limits::RANGE_SIZE;
-use nv_prp::{PrpParse, fits};
+use nv_prp::{Named, NamedRuns, PrpParse, fits};
 use nv_sgl::SglParse;
 use std::alloc::{Allocator, Global};
 
@@ -39,7 +42,9 @@ pub(crate) enum Stage<'a, A: Allocator + Clone> {
     Refused(Status),
     /// It moves no data, and nothing is read.
     Bare(IoOpcode),
-    /// The pages that PRP1 and PRP2 name are read. The parse has room for all runs of a transfer, so it is not moved about.
+    /// PRP1 and PRP2 name all of its pages, and no list is read.
+    Named(Buffered, NamedRuns),
+    /// The list to which PRP2 points is read. The parse has room for all runs of a transfer, so it is not moved about.
     Pages(Buffered, Box<PrpParse<'a>>),
     /// The descriptors of its SGL are read.
     Descriptors(Buffered, SglParse<'a, A>),
@@ -118,14 +123,11 @@ impl<'a> GrantRef<'a> {
         ensures ahead { OnOk result (ahead_at (blocks_in self.now.ns.now) sqe.now stage.new
             ≡ judge (mapped self.now.map.now.regions) self.now.limit (blocks_in self.now.ns.now) sqe.now) }
     {
-        let Need { dest, bytes, .. } = buffered.need;
-        let bytes = u64::from(bytes);
         match sqe.data_pointer() {
-            DataPointer::Prp => {
-                let parse = PrpParse::new(self.map, sqe.prp1(), sqe.prp2(), bytes);
-                *stage = Stage::Pages(buffered, Box::new(alloc, parse)?);
-            }
+            DataPointer::Prp => self.pages(alloc, sqe, buffered, stage)?,
             DataPointer::Sgl => {
+                let Need { dest, bytes, .. } = buffered.need;
+                let bytes = u64::from(bytes);
                 let first = sqe.sgl();
                 let parse = SglParse::with_limit(heap, self.map, first, dest, bytes, self.limit)?;
                 *stage = Stage::Descriptors(buffered, parse);
@@ -133,6 +135,41 @@ impl<'a> GrantRef<'a> {
             DataPointer::Reserved => *stage = Stage::Refused(StatusCode::InvalidField.refused()),
         }
         Ok(())
+    }
+
+    // Writes how the reading of its list begins, where PRP1 and PRP2 name its buffer. A parse is made only where they have a list.
+    #[inline(always)]
+    fn pages<A: Allocator + Clone>(
+        &self,
+        alloc: Global,
+        sqe: &Sqe,
+        buffered: Buffered,
+        stage: &mut Stage<'a, A>,
+    ) -> Result<(), NoMemory>
+        requires known { IsKnown (given_of self.now) sqe.now buffered.opcode buffered.need }
+        requires buffer { has_buffer buffered.opcode ≡ true }
+        requires prp { data_pointer (psdt_of sqe.now) ≡ pointer.Prp }
+        ensures sound { OnOk result (IsSoundStage (given_of self.now) sqe.now stage.new) }
+        ensures ahead { OnOk result (ahead_at (blocks_in self.now.ns.now) sqe.now stage.new
+            ≡ judge (mapped self.now.map.now.regions) self.now.limit (blocks_in self.now.ns.now) sqe.now) }
+    {
+        let (prp1, prp2) = (sqe.prp1(), sqe.prp2());
+        let bytes = u64::from(buffered.need.bytes);
+        match Named::by(self.map, prp1, prp2, bytes) {
+            Named::Runs(runs) => {
+                *stage = Stage::Named(buffered, runs);
+                Ok(())
+            }
+            Named::Fault(code) => {
+                *stage = Stage::Refused(code.refused());
+                Ok(())
+            }
+            Named::FirstPage => {
+                let parse = PrpParse::new(self.map, prp1, prp2, bytes);
+                *stage = Stage::Pages(buffered, Box::new(alloc, parse)?);
+                Ok(())
+            }
+        }
     }
 }
 
@@ -207,6 +244,7 @@ impl<'a, A: Allocator + Clone> Draft<'a, A> {
     {
         match &self.stage {
             Stage::Refused(_) | Stage::Bare(_) => Ahead::End,
+            Stage::Named(buffered, _) => ahead_of_list(buffered.opcode, Want::Done),
             Stage::Pages(buffered, parse) => ahead_of_list(buffered.opcode, parse.wants()),
             Stage::Descriptors(buffered, parse) => ahead_of_list(buffered.opcode, parse.wants()),
             Stage::Ranges(source) => source.ahead(),
@@ -231,6 +269,7 @@ impl<'a, A: Allocator + Clone> Draft<'a, A> {
         ensures { IfOk result (λ places. IsSpelledBy self.now.stage places) }
     {
         match &self.stage {
+            Stage::Named(_, runs) => runs.places(alloc),
             Stage::Pages(_, parse) => parse.places(alloc),
             Stage::Descriptors(_, parse) => parse.places(alloc),
             Stage::Refused(_) | Stage::Bare(_) | Stage::Ranges(_) => unreachable!(),
@@ -252,7 +291,7 @@ impl<'a, A: Allocator + Clone> Draft<'a, A> {
             }
             Stage::Descriptors(_, parse) => parse.feed(bytes),
             Stage::Ranges(source) => source.feed(bytes),
-            Stage::Refused(_) | Stage::Bare(_) => unreachable!(),
+            Stage::Refused(_) | Stage::Bare(_) | Stage::Named(_, _) => unreachable!(),
         }
     }
 
@@ -269,6 +308,7 @@ impl<'a, A: Allocator + Clone> Draft<'a, A> {
                 let portions = Portions::bare(tags_wanted(&self.sqe, self.given.ns));
                 Ok(Outline::new(PlanKind::NoData, portions))
             }
+            Stage::Named(_, _) => self.listed(alloc, Want::Done),
             Stage::Pages(_, parse) => self.listed(alloc, parse.wants()),
             Stage::Descriptors(_, parse) => self.listed(alloc, parse.wants()),
             Stage::Ranges(source) => self.given.ranged(alloc, &source.bytes),

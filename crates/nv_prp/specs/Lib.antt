@@ -4,3 +4,4 @@ pub mod Cursor
 pub mod Fits
 pub mod Met
 pub mod Parse
+pub mod Named

@@ -200,7 +200,7 @@ impl Cursor {
 }
 
 // The first check that an entry or pointer fails whose address must be a multiple of `alignment`, and which needs `len` bytes there.
-fn fault_of(map: &GuestMap, alignment: u64, addr: u64, len: u64) -> Option<StatusCode>
+pub(crate) fn fault_of(map: &GuestMap, alignment: u64, addr: u64, len: u64) -> Option<StatusCode>
     requires { 0 < alignment }
     ensures value { result ≡ entry_fault (mapped map.now.regions) alignment addr len }
     ensures aligned { result ≡ None → addr % alignment ≡ 0 }

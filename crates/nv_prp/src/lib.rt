@@ -3,6 +3,8 @@
 //! - [`PrpParse`] reads PRP1, PRP2 and the list that PRP2 may point to. It reads no memory itself: [`PrpParse::wants`] says which bytes it wants
 //!   next, and [`PrpParse::feed`] gives them to it, each of them once. In the end it is `Done` and gives the places of the transfer, or has a
 //!   `Fault`.
+//! - [`Named`] is what PRP1 and PRP2 name by themselves. A transfer that lies in at most two pages needs no list and no parse: [`NamedRuns`] are its
+//!   runs.
 //! - [`fits`] says whether a transfer can name places by PRP, by their host addresses.
 //! - [`build`] names such places by PRP1, PRP2 and a list, and [`build_run`] a stretch of the host's memory: [`Prps`].
 //! - [`laws`] states two things. Feeding a parse what a memory holds where the parse asks does not change what the parse ends in for that memory.
@@ -15,7 +17,8 @@
 //! first fault decides. That order and the status of bytes outside the guest's memory are this project's own choice (profile).
 //!
 //! A transfer has at most 131,072 bytes, so there is a number of pages in which it lies at most. The runs that were read are stored in an array
-//! of that size, and the entries of a list that is built in one with an entry less. So only [`PrpParse::places`] takes memory. It is called with ample memory in tests that compare its answer.
+//! of that size, and the entries of a list that is built in one with an entry less. So only [`PrpParse::places`] and [`NamedRuns::places`] take
+//! memory. They are called with ample memory in tests that compare their answers.
 //!
 //! What [`build`] makes names its addresses in any memory that has the list at the place that it was built for. A parse works over a memory and
 //! over a transcript of earlier reads, as in `nv_sgl`. Reading and building are one crate because what is built is judged by the definition by
@@ -27,11 +30,13 @@ mod cursor;
 mod fitting;
 pub mod laws;
 mod met;
+mod named;
 mod parse;
 mod prps;
 mod runs;
 
 pub use building::{build, build_run};
 pub use fitting::fits;
+pub use named::{Named, NamedRuns};
 pub use parse::{PrpParse, PrpRest};
 pub use prps::Prps;

@@ -8,8 +8,8 @@ use Rattle.std.proofs.lemmas.List.{get_or-replicate}
 use Rattle.std.proofs.lemmas.Nat.Bits.{bit_at-zero, bit_at_and, bit_at_not, bit_at_ones, bit_at_or}
 use Rattle.nv_entry.specs.Status.{bit}
 use Rattle.nv_world_model.specs.World.{Command}
-use Rattle.nv_tags.specs.Kept.{AreKept, AreMarked, IsMask, IsWith, IsWithout, free_states, is_ended_state, is_free_at, is_taken_state, slots_of, tags_in}
-use Rattle.nv_tags.specs.Tags.{Slot, command_of, is_ended, is_free_state, is_taken, set_each, slot_at, slot_of, tags_where}
+use Rattle.nv_tags.specs.Kept.{AreKept, AreMarked, IsMask, IsWith, IsWithout, free_states, is_ended_state, is_flying_state, is_free_at, is_taken_state, slots_of, tags_in}
+use Rattle.nv_tags.specs.Tags.{Slot, command_of, is_ended, is_flying, is_free_state, is_taken, set_each, slot_at, slot_of, tags_where}
 use Rattle.nv_tags.specs.declared.claim.Claim.{Claim}
 use Rattle.nv_tags.specs.declared.state.TagState.{TagState}
 use Rattle.nv_tags.specs.declared.state.TagState.TheVariants as state
@@ -156,6 +156,27 @@ marked-new =
       ended_are = λ t below. bit_at-zero t ∙ sym (ap (λ (x : TagState). bit (is_ended_state x)) (get_or-replicate 64 t state.Free state.Free below));
     }
 
+-- a tag that has none of these marks is with the physical controller
+pub flying-marked : (states : List TagState) (free taken ended : ℕ) → AreMarked states free taken ended → bit_or (bit_or free taken) ended < 2 ^ 64
+    → IsMask is_flying_state states (18446744073709551615 - bit_or (bit_or free taken) ended)
+flying-marked states free taken ended marked fits t below =
+    bit_at_not w64 (bit_or (bit_or free taken) ended) t fits below
+    ∙ ap (λ (n : ℕ). 1 - n)
+    (bit_at_or (bit_or free taken) ended t
+    ∙ ap (λ (n : ℕ). max n (bit_at ended t)) (bit_at_or free taken t ∙ ap (λ (n : ℕ). max n (bit_at taken t)) (marked.free_are t below))
+    ∙ ap (λ (n : ℕ). max (max (bit (is_free_state (at t))) n) (bit_at ended t)) (marked.taken_are t below)
+    ∙ ap (max (max (bit (is_free_state (at t))) (bit (is_taken_state (at t))))) (marked.ended_are t below))
+    ∙ unmarked (at t)
+  where
+    at : ℕ → TagState
+    at tag = slice_index_or states tag state.Free
+
+    unmarked : (s : TagState) → 1 - max (max (bit (is_free_state s)) (bit (is_taken_state s))) (bit (is_ended_state s)) ≡ bit (is_flying_state s)
+    unmarked state.Free = refl
+    unmarked state.Taken = refl
+    unmarked state.Flying = refl
+    unmarked (state.Ended st) = refl
+
 -- what holds of a tag that is set
 pub mask-holds : (test : TagState → Bool) (states : List TagState) (mask : ℕ) → IsMask test states mask → (t : ℕ) → t < 64 → is_set mask t ≡ true
     → test (slice_index_or states t state.Free) ≡ true
@@ -177,6 +198,12 @@ slot-taken state.Free command = refl
 slot-taken state.Taken command = refl
 slot-taken state.Flying command = refl
 slot-taken (state.Ended st) command = refl
+
+pub slot-flying : (s : TagState) (command : Command) → is_flying (slot_of s command) ≡ is_flying_state s
+slot-flying state.Free command = refl
+slot-flying state.Taken command = refl
+slot-flying state.Flying command = refl
+slot-flying (state.Ended st) command = refl
 
 pub slot-ended : (s : TagState) (command : Command) → is_ended (slot_of s command) ≡ is_ended_state s
 slot-ended state.Free command = refl

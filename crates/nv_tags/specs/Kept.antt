@@ -36,12 +36,18 @@ abbrev pub is_behind : List TagState → (leaders : List ℕ) → (leader tag : 
 is_behind states leaders leader tag =
     not (is_free_at states tag) && (slice_index leaders tag == leader && not (tag == leader))
 
--- whether the command of the tag of that number was taken, and no more; whether it has ended
+-- whether the command of the tag of that number was taken, and no more; whether it is with the physical controller; whether it has ended
 abbrev pub is_taken_state : TagState → Bool
 is_taken_state state.Free = false
 is_taken_state state.Taken = true
 is_taken_state state.Flying = false
 is_taken_state (state.Ended st) = false
+
+abbrev pub is_flying_state : TagState → Bool
+is_flying_state state.Free = false
+is_flying_state state.Taken = false
+is_flying_state state.Flying = true
+is_flying_state (state.Ended st) = false
 
 abbrev pub is_ended_state : TagState → Bool
 is_ended_state state.Free = false

@@ -33,6 +33,13 @@ is_taken (Used command Taken) = true
 is_taken (Used command Flying) = false
 is_taken (Used command (Ended st)) = false
 
+-- whether its command was handed to the physical controller, and has not ended
+abbrev pub is_flying : Slot → Bool
+is_flying Free = false
+is_flying (Used command Taken) = false
+is_flying (Used command Flying) = true
+is_flying (Used command (Ended st)) = false
+
 -- whether its command has ended
 abbrev pub is_ended : Slot → Bool
 is_ended Free = false

@@ -5,7 +5,7 @@ ghost use Rattle.nv_world_model.specs.Area.{tag_count};
 ghost use Rattle.nv_world_model.specs.SetUp.{most_guests};
 ghost use Rattle.nv_tags.specs.Numbers.{is_from, number_count};
 ghost use Rattle.nv_tags.specs.Tags.{Ended, Flying, Free, Taken, Used, claimed, command_in, command_of, free_slot, group};
-ghost use Rattle.nv_tags.specs.Tags.{Leads, is_ended, is_of, is_taken, leader_in, leader_of, released, slot_at, state_at, tags_where, taken_by, with_point};
+ghost use Rattle.nv_tags.specs.Tags.{Leads, is_ended, is_flying, is_of, is_taken, leader_in, leader_of, released, slot_at, state_at, tags_where, taken_by, with_point};
 ghost use Rattle.nv_tags.specs.declared.state.TagState.TheVariants as state;
 
 use crate::claim::Claim;
@@ -175,6 +175,13 @@ impl Tags {
         ensures { result ≡ tags_where is_taken self.now }
     {
         Group::of(self.taken)
+    }
+
+    /// The tags whose commands are with the physical controller, in order.
+    pub fn flying(&self) -> Group
+        ensures { result ≡ tags_where is_flying self.now }
+    {
+        Group::of(!(self.free | self.taken | self.ended))
     }
 
     /// The tags whose commands have ended, in order.

@@ -9,6 +9,6 @@ pub returns : goal.returns
 returns c =
     let end = c.loop-lane-test.false in
     let lanes = c.lanes-lane-end.ensures.1 in
-    guest-rests c.args.mediator.now c.args.guest (sym c.due.ensures ∙ c.if-due.false)
+    guest-rests c.args.mediator.now c.args.guest (sym c.is_admin_due.ensures ∙ c.if-is_admin_due.false)
     (λ lane below. (c.loop-lane.invariant lane (omega (arith, below, end, lanes))).0)
     (λ lane below. (c.loop-lane.invariant lane (omega (arith, below, end, lanes))).1)

@@ -1,8 +1,10 @@
-use Rattle.std.proofs.Common.{◌≡◌, ℕ, ◌<◌, Some}
-use Rattle.nv_core.specs.Jobs.{job_of}
-use Rattle.nv_mediator.specs.Hosted.{hosted_world}
-use Rattle.nv_plan.specs.declared.job.Job.{Job}
+use Rattle.std.proofs.Common.{◌≡◌, ℕ, false, length}
+use Rattle.nv_c.specs.Work.{NoneWaitsAt}
+use Rattle.nv_tags.proofs.Rows.{is_among}
 use Rattle.nv_c.proofs.working.next_plan.Given as goal
 
 abbrev pub invariant-loop-tag : goal.invariant-loop-tag
-invariant-loop-tag l = (tag : ℕ) → tag < l.tag → (job : Job) → job_of (hosted_world l.mediator) l.lane tag ≡ Some job → job.guest ≡ l.guest → ⊥
+invariant-loop-tag l = (tag : ℕ) → is_among l.taken tag ≡ false → NoneWaitsAt l.guest l.lane tag l.mediator
+
+abbrev pub decreases-loop-tag : goal.decreases-loop-tag
+decreases-loop-tag l = length l.taken
