@@ -164,6 +164,11 @@ static bool check_shared(emulated *d, const window *memory, reason *r) {
     return true;
 }
 
+static bool open_controller(emulated *d, const window *memory, const nvme_needs *needs, reason *r) {
+    nvme_access access = {d, read_bar, write_bar, now, pause_little, d->bar_bytes};
+    return nvme_open(&d->controller, &access, memory, needs, r);
+}
+
 /* Takes the connection of *socket, which is closed where the drive cannot be opened. */
 static drive *open_on(const window *memory, const nvme_needs *needs, qtest *socket, reason *r) {
     static const drive_ops ops = {create_lanes, ring_submission, ring_completion, work, check, describe, close_emulated};
@@ -174,11 +179,10 @@ static drive *open_on(const window *memory, const nvme_needs *needs, qtest *sock
         return NULL;
     }
     *d = (emulated){.base = {&ops}, .socket = *socket};
-    if (check_window(memory, r) && check_shared(d, memory, r) && find_function(d, r) && set_up_function(d, r)) {
-        nvme_access access = {d, read_bar, write_bar, now, pause_little, d->bar_bytes};
-        if (nvme_open(&d->controller, &access, memory, needs, r)) return &d->base;
+    if (check_window(memory, r) && check_shared(d, memory, r) && find_function(d, r)) {
         reason later;
-        config_write(d, COMMAND, COMMAND_SILENT, &later);
+        if (set_up_function(d, r) && open_controller(d, memory, needs, r)) return &d->base;
+        config_write(d, COMMAND, COMMAND_SILENT, &later); /* however far it came: no accesses of the window */
     }
     qtest_close(&d->socket);
     free(d);

@@ -3,7 +3,9 @@
 #define HOST_TESTS_CHECK_H
 
 #include <dirent.h>
+#include <fcntl.h>
 #include <stdio.h>
+#include <stdlib.h>
 #include <string.h>
 
 static unsigned checks_passed, checks_failed;
@@ -38,6 +40,29 @@ static inline unsigned open_descriptors(void) {
     while (readdir(d)) count++;
     closedir(d);
     return count;
+}
+
+/* How many of them another program would get. */
+static inline unsigned inherited_descriptors(void) {
+    unsigned count = 0;
+    DIR *d = opendir("/proc/self/fd");
+    if (!d) return 0;
+    for (struct dirent *e; (e = readdir(d));) {
+        int flags = fcntl(atoi(e->d_name), F_GETFD);
+        count += flags >= 0 && !(flags & FD_CLOEXEC);
+    }
+    closedir(d);
+    return count;
+}
+
+/* Whether a file is mapped whose path has this part. */
+static inline int is_mapped(const char *part) {
+    char line[1000];
+    int found = 0;
+    FILE *f = fopen("/proc/self/maps", "re");
+    while (f && fgets(line, sizeof line, f)) found |= strstr(line, part) != NULL;
+    if (f) fclose(f);
+    return found;
 }
 
 #endif

@@ -1,8 +1,12 @@
 #include "closing.h"
 
 #include <arpa/inet.h>
+#include <errno.h>
 #include <fcntl.h>
 #include <netinet/in.h>
+#include <pthread.h>
+#include <signal.h>
+#include <stdatomic.h>
 #include <sys/eventfd.h>
 #include <sys/socket.h>
 #include <unistd.h>
@@ -13,6 +17,31 @@
 #include "messages.h"
 
 enum { LINGER = 2 /* seconds that a close waits */, SOON = 700 /* milliseconds, of a machine that is busy */, LATE = 20000 };
+
+/* Fails where a thread is not to be had. What it is asked for else does not matter here. */
+static bool no_threads;
+
+int pthread_attr_setstacksize(pthread_attr_t *attributes, size_t bytes) {
+    (void)attributes;
+    (void)bytes;
+    return no_threads ? EINVAL : 0;
+}
+
+/* Threads that nobody waits for have to be detached: this counts the others. */
+static unsigned joinable;
+
+int pthread_attr_setdetachstate(pthread_attr_t *attributes, int state) {
+    (void)attributes;
+    joinable += state != PTHREAD_CREATE_DETACHED;
+    return 0;
+}
+
+static atomic_bool signalled;
+
+static void on_signal(int signal) {
+    (void)signal;
+    atomic_store(&signalled, true);
+}
 
 /* A socket whose close waits: what it has sent is not read. *other is its other end. -1 where there is no network. */
 static int slow_socket(int *other) {
@@ -50,6 +79,33 @@ static void test_quick(void) {
     closing_give(&c, NULL, 0);
     closing_give(&c, (const int[]){-1, -1}, 2);
     CHECK(closing_left(&c) == 0 && open_descriptors() == before);
+    /* without a thread they are closed at once */
+    no_threads = true;
+    fds[1] = eventfd(0, EFD_CLOEXEC);
+    fds[3] = eventfd(0, EFD_CLOEXEC);
+    closing_give(&c, fds, 4);
+    CHECK(closing_left(&c) == 0 && open_descriptors() == before);
+    no_threads = false;
+    /* 0 is a descriptor as others are, where a program began without it */
+    int input = fcntl(0, F_DUPFD_CLOEXEC, 3);
+    CHECK(dup2(eventfd(0, EFD_CLOEXEC), 0) == 0);
+    closing_give(NULL, (const int[]){0}, 1);
+    CHECK(fcntl(0, F_GETFD) == -1);
+    if (input >= 0) dup2(input, 0), close(input);
+    /* the caller's signals are as before */
+    sigset_t blocked;
+    CHECK(pthread_sigmask(SIG_SETMASK, NULL, &blocked) == 0 && !sigismember(&blocked, SIGTERM) && !sigismember(&blocked, SIGALRM));
+}
+
+/* While a close waits, a signal waits for the caller, which blocks it. */
+static void check_signals(void) {
+    sigset_t one;
+    sigemptyset(&one);
+    sigaddset(&one, SIGUSR1);
+    CHECK(sigaction(SIGUSR1, &(struct sigaction){.sa_handler = on_signal}, NULL) == 0 && pthread_sigmask(SIG_BLOCK, &one, NULL) == 0);
+    CHECK(kill(getpid(), SIGUSR1) == 0);
+    clock_pause(50000);
+    CHECK(!atomic_load(&signalled) && pthread_sigmask(SIG_UNBLOCK, &one, NULL) == 0 && atomic_load(&signalled));
 }
 
 /* A descriptor whose close waits holds nobody up: given to close, as an interrupt, in a message that cannot be, and in one that was not received. */
@@ -68,6 +124,7 @@ static void test_slow(void) {
     uint64_t begin = clock_milliseconds();
     closing_give(&c, fds, 1);
     CHECK(closing_left(&c) == 1);
+    check_signals();
     interrupt_begin(&irq);
     CHECK(interrupt_take(&irq, fds[1], -1, &c) == INTERRUPT_STRANGE && closing_left(&c) == 3);
     CHECK(proxy_open(&p, -1, &c) == PROXY_OK && proxy_feed(&p, header(DEVICE_RESET, 1).bytes, 16, fds + 2, 1, false, 0) == PROXY_SIZE && closing_left(&c) == 4);
@@ -86,5 +143,6 @@ static void test_slow(void) {
 int main(void) {
     test_quick();
     test_slow();
+    CHECK(joinable == 0);
     return checks_end();
 }

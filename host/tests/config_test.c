@@ -1,6 +1,9 @@
 #include "config.h"
 
+#include <fcntl.h>
 #include <stdlib.h>
+#include <sys/ioctl.h>
+#include <sys/wait.h>
 #include <unistd.h>
 
 #include "check.h"
@@ -60,12 +63,30 @@ static void test_good(void) {
 #define G0 "guest 0 memory 4K\n"
 #define REST "drive vfio 0000:01:00.0\n" G0
 
+/* Digits of both cases, bytes beyond ASCII, each version, and limits that are just met. */
+static void test_good_rest(void) {
+    static const struct {
+        const char *name;
+        uint32_t value;
+    } versions[] = {{"1.0", 0x10000}, {"1.1", 0x10100}, {"1.2", 0x10200}, {"1.2.1", 0x10201}, {"1.3", 0x10300}, {"1.4", 0x10400}, {"2.0", 0x20000}};
+    for (size_t i = 0; i < sizeof versions / sizeof versions[0]; i++) {
+        char text[200];
+        sprintf(text, REST "extent 0 0 1\nlisten 0 a\nversion 0 %s\n", versions[i].name);
+        CHECK_MORE(parse(text) && c.guest[0].version == versions[i].value, text);
+    }
+    CHECK(parse(REST "extent 0 0xabCDeF 0xA\nlisten 0 /run/\xc3\xa4\n") && c.guest[0].extent[0].base == 0xabcdef && c.guest[0].extent[0].blocks == 10);
+    CHECK(!strcmp(c.guest[0].listen, "/run/\xc3\xa4"));
+    CHECK(parse(REST "extent 0 0 1\nextent 0 2 1\nlisten 0 a\nshare 0 2\ndescriptors 0 1\n") && c.guest[0].share == 2 && c.guest[0].descriptors == 1);
+    CHECK(parse(REST "extent 0 0 1\nstart 0 a \"\"\nstart 0 \"\"\n") && c.guest[0].starts == 3);
+}
+
 static void test_lines(void) {
     refused("", "line 1: the configuration ends without a line 'drive'");
     refused("# nothing\n\n\n", "line 3: the configuration ends without a line 'drive'");
     refused("frob 1\n", "line 1: unknown word: frob");
     refused("\n  Guest 0 memory 4K", "line 2: unknown word: Guest");
     refused("guest 0\tmemory 4K\n", "line 1: byte 8 is a control character, 0x09");
+    refused("guest 0 \x7f\n", "line 1: byte 9 is a control character, 0x7f");
     refused("drive ram 4K\r\n", "line 1: byte 13 is a control character, 0x0d");
     refused("listen 0 \"abc\n", "line 1: the quote of word 3 is not closed");
     refused("listen 0 \"abc\"d\n", "line 1: something follows the quote that closes word 3");
@@ -76,6 +97,10 @@ static void test_lines(void) {
     refused("guest 0 memory 4K 5 6\n", "line 1: 'guest' has too many words");
     refused("lanes\n", "line 1: 'lanes' has too few words");
     refused("drive ram 4K a b\n", "line 1: 'drive' has too many words");
+    static const char *const few[] = {"extent 0 1", "share 0", "descriptors 0", "version 0", "listen 0", "start 0", "drive ram"};
+    static const char *const many[] = {"extent 0 1 1 1", "share 0 1 1", "descriptors 0 1 1", "version 0 1.2 1", "listen 0 a b", "lanes 1 1"};
+    for (size_t i = 0; i < sizeof few / sizeof few[0]; i++) CHECK_MORE(!parse(few[i]) && strstr(r.text, "' has too few words"), few[i]);
+    for (size_t i = 0; i < sizeof many / sizeof many[0]; i++) CHECK_MORE(!parse(many[i]) && strstr(r.text, "' has too many words"), many[i]);
     CHECK(!config_parse(&c, "lanes 2\nlanes\0 2\n", 17, &r));
     CHECK(!strcmp(r.text, "line 2: byte 6 is a control character, 0x00"));
     static char big[CONFIG_BYTES + 1];
@@ -103,6 +128,8 @@ static void test_guests(void) {
     refused("guest 0 Memory 4K\n", "line 1: 'memory' is expected, not 'Memory'");
     refused("guest 0 memory 0\n", "line 1: the guest's memory is 0, no multiple of 4096 from 4096 on");
     refused("guest 0 memory 4097\n", "line 1: the guest's memory is 4097, no multiple of 4096 from 4096 on");
+    refused("guest 0 memory 6144\n", "line 1: the guest's memory is 6144, no multiple of 4096 from 4096 on");
+    refused("guest 0 memory 0X1000\n", "line 1: the guest's memory is no size, such as 512M: 0X1000");
     refused("guest 0 memory 5K\n", "line 1: the guest's memory is 5K, no multiple of 4096 from 4096 on");
     refused("guest 0 memory 4k\n", "line 1: the guest's memory is no size, such as 512M: 4k");
     refused("guest 0 memory 4KB\n", "line 1: the guest's memory is no size, such as 512M: 4KB");
@@ -116,6 +143,8 @@ static void test_guests(void) {
     refused("drive qemu s m\nguest 0 memory 4K m\n", "line 2: the guest's memory has a file that stands in a former line already");
     refused("guest 0 memory 4K m\ndrive qemu s m\n", "line 2: the drive's memory has a file that stands in a former line already");
     refused("drive qemu s m\n" G0 "extent 0 0 1\nlisten 0 a\n", "line 2: guest 0 needs a file of memory, which the drive's QEMU maps, too");
+    refused("drive qemu s m\nguest 0 memory 4K a\nextent 0 0 1\nlisten 0 a\nguest 1 memory 4K\nextent 1 1 1\nlisten 1 b\n",
+            "line 5: guest 1 needs a file of memory, which the drive's QEMU maps, too");
     refused(REST "listen 0 a\n", "line 2: guest 0 has no line 'extent'");
     refused(REST "extent 0 0 1\n", "line 2: guest 0 has no line 'listen' or 'start'");
     refused("share 0 1\n", "line 1: guest 0 has no line 'guest' before this one");
@@ -153,6 +182,9 @@ static void test_rest(void) {
     refused(REST "extent 0 0 1\nlisten 0 a\nshare 0 64\nguest 1 memory 4K\nextent 1 1 1\nlisten 1 b\n",
             "line 6: the guests up to 1 have shares of 65 tags, and a lane has 64");
     CHECK(parse(REST "extent 0 0 1\nlisten 0 a\nshare 0 63\nguest 1 memory 4K\nextent 1 1 1\nlisten 1 b\n"));
+    refused(REST "extent 0 0 1\nlisten 0 a\nshare 0 63\nguest 1 memory 4K\nextent 1 1 1\nextent 1 3 1\nlisten 1 b\n",
+            "line 6: the guests up to 1 have shares of 65 tags, and a lane has 64");
+    refused(G0 "descriptors 0 0\n", "line 2: the count of descriptors is 0, not in 1 to 4096");
     refused(G0 "descriptors 0 4097\n", "line 2: the count of descriptors is 4097, not in 1 to 4096");
     refused(G0 "descriptors 0 1024\ndescriptors 0 2\n", "line 3: the guest's count of descriptors stands in a former line already");
     refused(G0 "version 0 2.1\n", "line 2: the version is none of 1.0, 1.1, 1.2, 1.2.1, 1.3, 1.4 and 2.0: 2.1");
@@ -183,8 +215,25 @@ static void test_rest(void) {
     CHECK(!parse(path) && strstr(r.text, "drive"));
     strcat(path, "p");
     refused(path, "line 2: the socket has a path of more than 107 bytes");
+    char longer[1100] = "";
+    memset(longer, 'p', 1024);
+    static const struct {
+        const char *form, *message;
+    } paths[] = {{"drive ram 4K %s\n", "line 1: the drive's file has a path of more than 1023 bytes"},
+                 {"guest 0 memory 4K %s\n", "line 1: the guest's memory has a path of more than 1023 bytes"},
+                 {"drive qemu a %s\n", "line 1: the drive's memory has a path of more than 1023 bytes"},
+                 {"drive qemu %s a\n", "line 1: the socket has a path of more than 107 bytes"}};
+    for (unsigned i = 0; i < 4; i++) {
+        char text[1200];
+        longer[i < 3 ? 1024 : 108] = 0;
+        CHECK(snprintf(text, sizeof text, paths[i].form, longer) > 0);
+        refused(text, paths[i].message);
+        CHECK(snprintf(text, sizeof text, paths[i].form, longer + 1) > 0 && !parse(text) && strstr(r.text, "ends without a line"));
+    }
     static char words[1000] = G0 "start 0";
-    for (unsigned i = 0; i < 129; i++) strcat(words, " a");
+    for (unsigned i = 0; i < 128; i++) strcat(words, " a");
+    CHECK(!parse(words) && strstr(r.text, "ends without a line 'drive'"));
+    strcat(words, " a");
     refused(words, "line 2: the guest's program has more than 128 words");
     static char texts[200000];
     strcpy(texts, G0);
@@ -194,6 +243,12 @@ static void test_rest(void) {
         strcat(texts, "\n");
     }
     refused(texts, "line 18: all paths and words take more than 65536 bytes");
+    /* 16 of them leave room for one more of 1,519 bytes and its NUL, and then for none */
+    char *end = texts + strlen(G0) + 16 * (size_t)4009;
+    strcpy(end, "start 0 ");
+    memset(end + 8, 'y', 1519);
+    strcpy(end + 8 + 1519, "\nstart 0 \"\"\n");
+    refused(texts, "line 19: all paths and words take more than 65536 bytes");
 }
 
 static void test_file(void) {
@@ -214,12 +269,32 @@ static void test_file(void) {
     CHECK(open_descriptors() == before - 1);
 }
 
+/* What a file gives in pieces is put together. */
+static void test_pieces(void) {
+    int ends[2], left = 1, status = -1;
+    char path[40];
+    CHECK(pipe2(ends, O_CLOEXEC) == 0);
+    snprintf(path, sizeof path, "/proc/self/fd/%d", ends[0]);
+    pid_t child = fork();
+    if (child == 0) {
+        bool good = write(ends[1], GOOD, 100) == 100;
+        while (ioctl(ends[0], FIONREAD, &left) == 0 && left > 0) usleep(1000);
+        _exit(good && write(ends[1], &GOOD[100], sizeof GOOD - 101) == (ssize_t)sizeof GOOD - 101 ? 0 : 1);
+    }
+    close(ends[1]);
+    CHECK_MORE(config_read(&c, path, &r) && c.guest[1].starts == 6, r.text);
+    close(ends[0]);
+    CHECK(waitpid(child, &status, 0) == child && status == 0);
+}
+
 int main(void) {
     test_good();
+    test_good_rest();
     test_lines();
     test_guests();
     test_extents();
     test_rest();
     test_file();
+    test_pieces();
     return checks_end();
 }

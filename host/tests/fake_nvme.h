@@ -24,7 +24,7 @@ typedef enum fake_fault {
     FAKE_COMMAND_ID, /* completions name another command */
     FAKE_QUEUE_ID,   /* or another queue */
     FAKE_HEAD,       /* or another head */
-    FAKE_REFUSES,    /* status Invalid Field in Command, with DNR */
+    FAKE_REFUSES,    /* the status `refusal` */
     FAKE_NO_SHUTDOWN,
     FAKE_ACCESS /* accesses fail */
 } fake_fault;
@@ -41,12 +41,14 @@ typedef struct fake {
     uint32_t vs, cc, csts, aqa, masks;
     uint8_t controller[4096], namespace[4096];
     uint32_t granted; /* dword 0 of Number of Queues */
+    uint32_t asked;   /* dword 11 of it */
+    uint16_t refusal; /* Invalid Field in Command, with DNR, where a test says nothing else */
     fake_fault fault;
     int fault_opcode; /* of the admin command with the fault; -1: of any */
-    uint32_t head, tail, done;
+    uint32_t head, tail, done, acknowledged;
     bool phase, gone;
     fake_queue submission[9], completion[9];
-    unsigned commands, deleted, violations, shutdowns;
+    unsigned commands, deleted, violations, shutdowns, shutdown_kind;
 } fake;
 
 static inline void fake_begin(fake *f, uint8_t *memory, uint64_t bytes) {
@@ -54,6 +56,7 @@ static inline void fake_begin(fake *f, uint8_t *memory, uint64_t bytes) {
     f->cap = UINT64_C(1) << 37 | 2 << 24 | 1 << 16 | 1023; /* NVM command set, TO 1 s, CQR, 1,024 slots, stride 4 */
     f->vs = 0x10400;
     f->granted = 63 << 16 | 63;
+    f->refusal = 0x4002;
     uint8_t *c = f->controller;
     memcpy(c + 4, "SN 1                ", 20);
     memcpy(c + 24, "A fake controller                       ", 40);
@@ -82,7 +85,7 @@ static inline void fake_complete(fake *f, const uint8_t *entry, uint32_t result,
         f->gone = true;
         return;
     }
-    if (fault == FAKE_REFUSES) status = 0x4002;
+    if (fault == FAKE_REFUSES) status = f->refusal;
     put32(at, result);
     put16(at + 8, (uint16_t)(f->head + (fault == FAKE_HEAD)));
     put16(at + 10, fault == FAKE_QUEUE_ID);
@@ -107,6 +110,7 @@ static inline void fake_admin(fake *f, const uint8_t *entry) {
     case 0x09:
         if (d10 != 7) status = 0x4002;
         result = f->granted;
+        f->asked = d11;
         break;
     case 0x05:
     case 0x01:
@@ -134,12 +138,14 @@ static inline void fake_control(fake *f, uint32_t value) {
         if (f->fault == FAKE_FATAL_ON_ENABLE) f->csts |= 2;
         else if (f->fault == FAKE_GONE_ON_ENABLE) f->gone = true;
         else if (f->fault != FAKE_NEVER_READY) f->csts |= 1;
-        f->head = f->tail = f->done = 0;
+        f->head = f->tail = f->done = f->acknowledged = 0;
         f->phase = true;
     }
     if (was && !is && f->fault != FAKE_NEVER_DISABLED) f->csts = 0;
+    if (was && is && (value ^ f->cc) & ~(UINT32_C(3) << 14)) f->violations++;
     if (is && value & 3 << 14) {
         f->shutdowns++;
+        f->shutdown_kind = value >> 14 & 3;
         f->csts |= f->fault == FAKE_NO_SHUTDOWN ? 4 : 8;
     }
     f->cc = value;
@@ -163,6 +169,8 @@ static inline void fake_doorbell(fake *f, uint32_t offset, uint32_t value) {
     else if (place == 1 && value > (f->aqa >> 16)) f->violations++;
     else if (place >= 2 && place % 2) f->completion[place / 2].doorbell = value;
     else if (place >= 2) f->submission[place / 2].doorbell = value;
+    else if (place == 1) f->acknowledged = value;
+    else if (f->acknowledged != f->done) f->violations++; /* each completion is to be acknowledged before the next command */
     if (place != 0 || !(f->csts & 1)) return;
     f->tail = value;
     while (f->head != f->tail && !(f->csts & 2)) {

@@ -69,5 +69,18 @@ int main(void) {
     CHECK(are(true, false));
     answer(1000, 0xffff);
     CHECK(are(false, false));
+    /* each lane and identifier has its own place */
+    for (unsigned i = 0; i < CONFIG_LANES * CONFIG_TAGS; i++) send(i / CONFIG_TAGS, (uint16_t)(i % CONFIG_TAGS), OPCODE_READ, 100);
+    CHECK(f.count[1] == CONFIG_LANES * CONFIG_TAGS);
+    for (unsigned i = 0; i < CONFIG_LANES * CONFIG_TAGS; i++) answer(i / CONFIG_TAGS, (uint16_t)(i % CONFIG_TAGS));
+    CHECK(are(false, false));
+    /* the last of sixteen guests */
+    c.guests = CONFIG_GUESTS;
+    c.guest[15].extents = 1;
+    c.guest[15].extent[0] = (config_extent){.base = 1000, .blocks = 1};
+    send(7, 63, OPCODE_COMPARE, 1000);
+    CHECK(flight_has(&f, 15) && !flight_has(&f, 7) && are(false, false));
+    answer(7, 63);
+    CHECK(!flight_has(&f, 15));
     return checks_end();
 }

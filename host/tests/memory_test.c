@@ -2,7 +2,9 @@
 
 #include <errno.h>
 #include <fcntl.h>
+#include <signal.h>
 #include <stdlib.h>
+#include <sys/resource.h>
 #include <sys/stat.h>
 #include <unistd.h>
 
@@ -16,7 +18,7 @@ static void test_own(void) {
     char path[64];
     memory_file a, b;
     uint64_t host = 0;
-    unsigned before = open_descriptors();
+    unsigned before = open_descriptors(), inherited = inherited_descriptors();
     CHECK(memory_reserve(&row, 1 << 24, &r));
     CHECK_MORE(memory_add(&a, &row, NULL, 0x100000, 0x10000, &r) && memory_add(&b, &row, NULL, 0x110000, 0x1000, &r), r.text);
     CHECK(row.mapped.pieces == 2 && window_at(&row.mapped, 0x10fffc, 4) == row.bytes + 0x10fffc && window_at(&row.mapped, 0x110000, 4096));
@@ -27,6 +29,14 @@ static void test_own(void) {
     uint8_t byte = 0;
     CHECK(fd >= 0 && pread(fd, &byte, 1, 0x123) == 1 && byte == 0x77);
     CHECK(ftruncate(fd, 0) < 0 && errno == EPERM && ftruncate(fd, 0x20000) < 0 && errno == EPERM); /* its length is sealed */
+    CHECK(fcntl(fd, F_ADD_SEALS, F_SEAL_WRITE) < 0 && errno == EPERM && inherited_descriptors() == inherited); /* and no one adds a seal */
+    CHECK(memory_is(&a, fd));
+    memory_file other = a;
+    other.device++;
+    CHECK(!memory_is(&other, fd));
+    other = a;
+    other.inode++;
+    CHECK(!memory_is(&other, fd));
     /* a region of QEMU's, by another descriptor of the same file */
     proxy_region region = {0, 0x10000, 0, fd};
     CHECK(memory_holds(&a, &region, &host) && host == 0x100000 && !memory_holds(&b, &region, &host));
@@ -40,14 +50,16 @@ static void test_own(void) {
     CHECK(!memory_holds(&a, &region, &host));
     region = (proxy_region){0, 0x1000, 0, -1};
     CHECK(!memory_holds(&a, &region, &host));
+    memory_close(&a);
+    memory_close(&a);
+    CHECK(a.fd == -1 && !memory_is(&a, fd));
     close(fd);
-    memory_close(&a);
-    memory_close(&a);
     CHECK(!memory_holds(&a, &(proxy_region){0, 0x1000, 0, b.fd}, &host) && row.bytes[0x100123] == 0x77);
     memory_close(&b);
+    CHECK(is_mapped("memfd:nvmed"));
     memory_release(&row);
     memory_release(&row);
-    CHECK(open_descriptors() == before);
+    CHECK(open_descriptors() == before && !is_mapped("memfd:nvmed"));
 }
 
 static void refused(const char *path, uint64_t address, uint64_t length, const char *part) {
@@ -88,7 +100,8 @@ static void test_named(void) {
     snprintf(path, sizeof path, "%s/m", folder);
     snprintf(link, sizeof link, "%s/l", folder);
     CHECK(memory_reserve(&row, 1 << 24, &r));
-    CHECK_MORE(memory_add(&m, &row, path, 0x1000, 0x4000, &r), r.text);
+    unsigned inherited = inherited_descriptors();
+    CHECK_MORE(memory_add(&m, &row, path, 0x1000, 0x4000, &r) && inherited_descriptors() == inherited, r.text);
     CHECK(stat(path, &about) == 0 && about.st_size == 0x4000 && (about.st_mode & 0777) == 0600);
     row.bytes[0x1000] = 5;
     memory_close(&m);
@@ -108,6 +121,13 @@ static void test_named(void) {
     CHECK(memory_add(&m, &row, NULL, 0x1000, 0x4000, &r));
     memory_close(&m);
     refused(path, 0x10000, 0x5000, "has 16384 bytes, not 20480");
+    refused(path, 0x10000, 0x3000, "has 16384 bytes, not 12288");
+    /* a file system without room */
+    struct rlimit limit;
+    CHECK(truncate(path, 0) == 0 && getrlimit(RLIMIT_FSIZE, &limit) == 0 && signal(SIGXFSZ, SIG_IGN) != SIG_ERR);
+    CHECK(setrlimit(RLIMIT_FSIZE, &(struct rlimit){4096, limit.rlim_max}) == 0);
+    refused(path, 0x10000, 0x4000, "cannot have 16384 bytes: File too large");
+    CHECK(setrlimit(RLIMIT_FSIZE, &limit) == 0);
     refused("/dev/null", 0x10000, 0x1000, "/dev/null: is no regular file");
     refused("/tmp", 0x10000, 0x1000, "/tmp: cannot open: Is a directory");
     refused("/tmp/no/such", 0x10000, 0x1000, "cannot open: No such file or directory");

@@ -62,9 +62,11 @@ static void test_good(void) {
     char text[300];
     nvme_lane lanes[2] = {lane_at(0), lane_at(1)};
     begin();
-    f.cc = f.csts = 1; /* it was left enabled by another driver */
+    f.cc = f.csts = 1; /* it was left enabled by another driver, with queues elsewhere */
+    f.asq = f.acq = UINT64_MAX;
     CHECK_MORE(open_with(2, 4096), r.text);
     CHECK(f.aqa == 0x000f000f && f.asq == ADMIN && f.acq == ADMIN + 4096 && f.cc == 0x00460001 && f.masks == UINT32_MAX && f.commands == 3);
+    CHECK(f.asked == 0x00010001);
     CHECK(n.found.blocks == 4096 && n.found.version == 0x10400 && n.found.compare && n.found.deallocate && n.found.write_zeroes && n.found.write_cache);
     nvme_describe(&n, text, sizeof text);
     CHECK_MORE(
@@ -87,19 +89,21 @@ static void test_good(void) {
     CHECK(!nvme_create_lanes(&n, lanes, 2, &r));
     CHECK_HAS(r.text, "has its lanes already");
     CHECK_MORE(nvme_close(&n, &r), r.text);
-    CHECK(f.deleted == 4 && f.shutdowns == 1 && f.cc == 0 && f.csts == 0 && f.violations == 0);
+    CHECK(f.deleted == 4 && f.shutdowns == 1 && f.shutdown_kind == 1 && f.cc == 0 && f.csts == 0 && f.violations == 0);
     CHECK(nvme_close(&n, &r) && f.shutdowns == 1 && !nvme_check(&n, &r));
 }
 
 /* Opened and closed many times: the admin queue goes round with both phases. */
 static void test_round(void) {
     nvme_lane lanes[8];
-    for (unsigned i = 0; i < 8; i++) lanes[i] = lane_at(i);
+    for (unsigned i = 0; i < 8; i++) lanes[i] = lane_at(i), lanes[i].completion_slots = 33;
     begin();
     f.cap |= UINT64_C(3) << 32; /* doorbells 32 bytes apart */
     for (unsigned k = 0; k < 3; k++) {
         CHECK_MORE(open_with(8, 1) && nvme_create_lanes(&n, lanes, 8, &r), r.text);
         CHECK(nvme_ring_submission(&n, 7, 9, &r) && f.submission[8].doorbell == 9);
+        CHECK(nvme_ring_submission(&n, 7, 64, &r) && nvme_ring_completion(&n, 7, 32, &r) && !nvme_ring_completion(&n, 7, 33, &r));
+        CHECK(f.submission[8].doorbell == 64 && f.completion[8].doorbell == 32 && f.completion[8].slots == 33);
         CHECK_MORE(nvme_close(&n, &r), r.text);
     }
     CHECK(f.commands == 3 * (3 + 16 + 16) && f.violations == 0 && f.time == 0);
@@ -109,6 +113,7 @@ static void test_properties(void) {
     begin(), f.gone = true, refused("there is no controller: its registers read as all ones");
     begin(), f.cap &= ~(UINT64_C(1) << 37), refused("does not have the NVM command set");
     begin(), f.cap |= UINT64_C(1) << 48, refused("needs memory pages larger than 4 KiB (CAP.MPSMIN is 1)");
+    begin(), f.cap |= UINT64_C(8) << 48, refused("needs memory pages larger than 4 KiB (CAP.MPSMIN is 8)");
     begin(), f.cap &= ~UINT64_C(0xffff), refused("queues of one slot only");
     begin(), f.cap |= UINT64_C(15) << 32, refused("the doorbells of 2 lanes end at 0xc1000, beyond the 0x2000 bytes of BAR0");
     begin(), f.fault = FAKE_NEVER_READY, refused("did not become ready within 1000 ms");
@@ -123,6 +128,12 @@ static void test_properties(void) {
     nvme_access small = access_of(0xfff);
     CHECK(!nvme_open(&n, &small, &w, &needs, &r));
     CHECK_HAS(r.text, "BAR0 has only 0xfff bytes");
+    /* doorbells that just fit: the admin queue's and those of two lanes, four bytes each */
+    for (uint32_t bytes = 0x1017; bytes <= 0x1018; bytes++) {
+        nvme_access access = access_of(bytes);
+        begin(), needs.lanes = 2;
+        CHECK(nvme_open(&n, &access, &w, &needs, &r) == (bytes == 0x1018));
+    }
     static const uint64_t places[] = {0xf000, ADMIN + 8, MEMORY - 8192, MEMORY, UINT64_MAX - 4095};
     for (size_t i = 0; i < sizeof places / sizeof places[0]; i++) {
         begin();
@@ -158,6 +169,19 @@ static void test_identify(void) {
     CHECK_MORE(open_with(2, 4096), r.text);
     CHECK(nvme_close(&n, &r));
     begin(), f.controller[512] = 0x06, refused("SQES is 0x06");
+    begin(), f.namespace[129] = 1, refused("256 bytes of metadata a block");
+    begin(), f.namespace[29] = 2, refused("protection information");
+    /* entries of other sizes, too; more than 255 namespaces; more than 2^32 blocks; texts that are cut or strange */
+    begin(), f.controller[512] = 0x75, f.controller[513] = 0x53, put32(f.controller + 516, 0x100), put64(f.namespace, UINT64_C(1) << 32);
+    memset(f.controller + 64, 0, 8), memcpy(f.controller + 64, "a", 2);
+    CHECK_MORE(open_with(2, 4096) && n.found.blocks == UINT64_C(1) << 32 && !strcmp(n.found.firmware, "a?"), r.text);
+    CHECK(nvme_close(&n, &r));
+    /* each optional command by itself */
+    for (unsigned bit = 0; bit < 16; bit++) {
+        begin(), put16(f.controller + 520, (uint16_t)(1u << bit)), f.controller[525] = bit == 1;
+        CHECK(open_with(1, 1) && n.found.compare == (bit == 0) && n.found.deallocate == (bit == 2) && n.found.write_zeroes == (bit == 3));
+        CHECK(n.found.write_cache == (bit == 1) && nvme_close(&n, &r));
+    }
     /* format 16, whose number has a bit in the upper part of FLBAS */
     begin(), f.namespace[25] = 16, f.namespace[26] = 0x20, f.namespace[194] = 9, f.namespace[130] = 12;
     CHECK_MORE(open_with(2, 4096), r.text);
@@ -178,6 +202,8 @@ static void test_admin(void) {
         {FAKE_HEAD, " of the admin queue, not "},
         {FAKE_REFUSES, "status code type 0, status code 0x02"},
     };
+    /* a status that is none of a type other than 0, and to be tried again */
+    begin(), f.fault = FAKE_REFUSES, f.refusal = 0x100, refused("status code type 1, status code 0x00");
     static const int opcodes[] = {6, 9, 5, 1};
     static const char *const names[] = {"Identify Controller", "Set Features, Number of Queues", "Create I/O Completion Queue",
                                         "Create I/O Submission Queue"};
@@ -253,6 +279,7 @@ static void test_check(void) {
     f.fault = FAKE_SILENT;
     CHECK(!nvme_close(&n, &r));
     CHECK_HAS(r.text, "did not answer Delete I/O Submission Queue within 10000 ms");
+    CHECK(!nvme_ring_submission(&n, 0, 1, &r) && !nvme_ring_completion(&n, 0, 1, &r));
     CHECK(f.shutdowns == 1 && f.cc == 0);
 }
 

@@ -1,13 +1,10 @@
 #include "proxy.h"
 
 #include <fcntl.h>
-#include <stdlib.h>
-#include <sys/eventfd.h>
-#include <sys/socket.h>
 #include <unistd.h>
 
 #include "check.h"
-#include "messages.h"
+#include "connection.h"
 
 static proxy_error decode(message m, unsigned count, proxy_request *q) {
     static const int fds[9] = {100, 101, 102, 103, 104, 105, 106, 107, 108};
@@ -55,13 +52,14 @@ static void test_decode_bad(void) {
         CHECK(decode(config_access(PCI_CFGREAD, 0, 0, 4), count, &q) == (count == 0 ? PROXY_OK : PROXY_COUNT));
         CHECK(decode(bar_access(BAR_READ, 0, 0, 4, 1), count, &q) == (count == 0 ? PROXY_OK : PROXY_COUNT));
     }
-    static const uint32_t lengths[] = {0, 3, 5, 7, 9, 16, 0x80000000, UINT32_MAX};
+    static const uint32_t lengths[] = {0, 3, 5, 7, 9, 16, 0x104, 0x10004, 0x80000000, UINT32_MAX};
     for (size_t i = 0; i < sizeof lengths / sizeof lengths[0]; i++) {
         CHECK(decode(config_access(PCI_CFGREAD, 0, 0, lengths[i]), 0, &q) == PROXY_LENGTH);
         CHECK(decode(bar_access(BAR_WRITE, 0, 0, lengths[i], 1), 0, &q) == PROXY_LENGTH);
     }
     CHECK(decode(config_access(PCI_CFGREAD, 0, 0, 8), 0, &q) == PROXY_LENGTH);
     CHECK(decode(config_access(PCI_CFGREAD, 256, 0, 1), 0, &q) == PROXY_ADDRESS);
+    CHECK(decode(config_access(PCI_CFGREAD, 0x10000, 0, 4), 0, &q) == PROXY_ADDRESS);
     CHECK(decode(config_access(PCI_CFGREAD, 255, 0, 2), 0, &q) == PROXY_ADDRESS);
     CHECK(decode(config_access(PCI_CFGWRITE, 253, 0, 4), 0, &q) == PROXY_ADDRESS);
     CHECK(decode(config_access(PCI_CFGWRITE, UINT32_MAX, 0, 1), 0, &q) == PROXY_ADDRESS);
@@ -88,6 +86,7 @@ static void test_regions(void) {
         {0x800000, 4096, UINT64_C(1) << 63},
         {0x800000, 4096, UINT64_MAX - 4095},
         {0x800000, UINT64_C(1) << 62, UINT64_C(1) << 62},
+        {0, 4096, 0},
         {0x100000, 4096, 0},
         {0xff000, 8192, 0},
         {0x1ff000, 4096, 0},
@@ -100,37 +99,6 @@ static void test_regions(void) {
         CHECK(decode(m, 3, &q) == PROXY_REGION);
         CHECK(decode(m, 2, &q) == PROXY_OK);
     }
-}
-
-/* A connection of which the test has the other end. */
-static int pair(proxy *p) {
-    int ends[2];
-    if (socketpair(AF_UNIX, SOCK_STREAM, 0, ends) || proxy_open(p, ends[0], NULL) != PROXY_OK) abort();
-    return ends[1];
-}
-
-/* Sends bytes, and `count` descriptors beside them, all of which are closed here. */
-static void send_with(int fd, const uint8_t *bytes, size_t length, unsigned count) {
-    int fds[253];
-    for (unsigned i = 0; i < count; i++) fds[i] = eventfd(0, 0);
-    if (!send_bytes(fd, bytes, length, fds, count)) abort();
-    for (unsigned i = 0; i < count; i++) close(fds[i]);
-}
-
-static void send_message(int fd, message m, unsigned count) { send_with(fd, m.bytes, m.length, count); }
-
-/* Receives until a request is there, an error, or nothing more. */
-static proxy_error turn(proxy *p, proxy_request *q, bool *there) {
-    proxy_error e;
-    *there = false;
-    for (unsigned i = 0; i < 1000; i++) {
-        e = proxy_next(p, q, there, i);
-        if (e != PROXY_OK || *there) return e;
-        size_t before = p->have;
-        e = proxy_receive(p, i);
-        if (e != PROXY_OK || p->have == before) return e;
-    }
-    return e;
 }
 
 static void test_replies(void) {
@@ -188,43 +156,6 @@ static void test_bytewise(void) {
         }
 }
 
-static void test_descriptors(void) {
-    static const struct {
-        unsigned count;
-        proxy_error reset, memory;
-    } cases[] = {{1, PROXY_COUNT, PROXY_OK},  {2, PROXY_COUNT, PROXY_OK},   {8, PROXY_COUNT, PROXY_OK},
-                 {9, PROXY_LOST, PROXY_LOST}, {10, PROXY_LOST, PROXY_LOST}, {253, PROXY_LOST, PROXY_LOST}};
-    for (size_t i = 0; i < sizeof cases / sizeof cases[0]; i++) {
-        proxy p;
-        proxy_request q;
-        bool there;
-        unsigned before = open_descriptors();
-        int peer = pair(&p);
-        send_message(peer, header(DEVICE_RESET, 0), cases[i].count);
-        CHECK(turn(&p, &q, &there) == cases[i].reset && !there);
-        proxy_close(&p);
-        close(peer);
-        peer = pair(&p);
-        send_message(peer, eight_regions(), cases[i].count);
-        CHECK(turn(&p, &q, &there) == cases[i].memory);
-        if (there) proxy_drop(&q, NULL);
-        proxy_close(&p);
-        close(peer);
-        CHECK(open_descriptors() == before);
-    }
-    /* more than 8 with one message, in three batches */
-    proxy p;
-    unsigned before = open_descriptors();
-    int peer = pair(&p);
-    message m = eight_regions();
-    for (unsigned i = 0; i < 3; i++) send_with(peer, m.bytes + i, 1, 3);
-    CHECK(proxy_receive(&p, 0) == PROXY_OK && proxy_receive(&p, 0) == PROXY_OK && proxy_receive(&p, 0) == PROXY_LOST);
-    close(peer);
-    CHECK(open_descriptors() == before + 1);
-    proxy_close(&p);
-    CHECK(open_descriptors() == before);
-}
-
 /* Descriptors are those of the message with which they came, also where one recvmsg gives two messages. */
 static void test_attribution(void) {
     proxy p;
@@ -237,10 +168,14 @@ static void test_attribution(void) {
     send_message(peer, eight_regions(), 1);
     CHECK(proxy_receive(&p, 0) == PROXY_OK && p.have == 44);
     CHECK(turn(&p, &q, &there) == PROXY_OK && there && q.kind == PROXY_CONFIG_READ);
-    CHECK(turn(&p, &q, &there) == PROXY_OK && there && q.kind == PROXY_INTERRUPT);
+    CHECK(proxy_check(&p, 2 * PROXY_STALL) == PROXY_OK); /* the second is whole, and waits here */
+    CHECK(proxy_reply(&p, 1) == PROXY_OK);
+    CHECK(turn(&p, &q, &there) == PROXY_OK && there && q.kind == PROXY_INTERRUPT && proxy_reply(&p, 1) == PROXY_UNASKED);
     proxy_drop(&q, NULL);
+    CHECK(q.irq.interrupt == -1 && q.irq.resample == -1);
     CHECK(turn(&p, &q, &there) == PROXY_OK && there && q.kind == PROXY_MEMORY && q.memory.count == 1);
     proxy_drop(&q, NULL);
+    CHECK(q.memory.region[0].fd == -1 && proxy_reply(&p, 1) == PROXY_UNASKED);
     CHECK(turn(&p, &q, &there) == PROXY_OK && !there);
     /* requests that nobody took are closed with the connection */
     send_message(peer, eight_regions(), 8);
@@ -270,49 +205,6 @@ static void test_borders(void) {
     CHECK(proxy_check(&late, 100 + PROXY_STALL) == PROXY_STALLED);
 }
 
-static void test_floods(void) {
-    proxy p;
-    proxy_request q;
-    bool there;
-    int peer = pair(&p);
-    unsigned taken = 0;
-    proxy_error e;
-    for (;;) {
-        send_message(peer, bar_access(BAR_READ, 0xfe000000, 0, 4, 1), 0);
-        e = turn(&p, &q, &there);
-        if (e != PROXY_OK || taken > 100) break;
-        taken++;
-    }
-    CHECK(e == PROXY_FLOOD && taken == PROXY_REPLIES);
-    proxy_close(&p);
-    close(peer);
-    /* a peer that reads no reply: the socket takes some hundred thousand bytes, then the queue fills */
-    peer = pair(&p);
-    for (taken = 0; taken < 1000000; taken++) {
-        send_message(peer, bar_access(BAR_READ, 0xfe000000, 0, 4, 1), 0);
-        e = turn(&p, &q, &there);
-        if (e != PROXY_OK) break;
-        CHECK(there && proxy_reply(&p, taken) == PROXY_OK && proxy_flush(&p) == PROXY_OK);
-    }
-    CHECK(e == PROXY_FLOOD && taken > PROXY_REPLIES);
-    proxy_close(&p);
-    close(peer);
-    /* one that reads late gets all of them in order */
-    peer = pair(&p);
-    for (taken = 0; !proxy_pending(&p); taken++) {
-        send_message(peer, bar_access(BAR_READ, 0xfe000000, 0, 4, 1), 0);
-        CHECK(turn(&p, &q, &there) == PROXY_OK && there && proxy_reply(&p, taken) == PROXY_OK && proxy_flush(&p) == PROXY_OK);
-    }
-    bool good = true;
-    for (unsigned i = 0; i < taken; i++) {
-        uint8_t reply[PROXY_REPLY];
-        good = good && recv(peer, reply, sizeof reply, MSG_WAITALL) == PROXY_REPLY && get64(reply + 16) == i && proxy_flush(&p) == PROXY_OK;
-    }
-    CHECK(good && !proxy_pending(&p));
-    close(peer);
-    proxy_close(&p);
-}
-
 static void test_odd(void) {
     proxy p;
     proxy_request q;
@@ -329,9 +221,23 @@ static void test_odd(void) {
     close(peer);
     CHECK(proxy_flush(&p) == PROXY_CLOSED);
     proxy_close(&p);
+    /* it is gone and has not read its reply */
+    peer = pair(&p);
+    send_message(peer, header(DEVICE_RESET, 0), 0);
+    CHECK(turn(&p, &q, &there) == PROXY_OK && there && proxy_reply(&p, 0) == PROXY_OK && proxy_flush(&p) == PROXY_OK);
+    close(peer);
+    CHECK(proxy_receive(&p, 0) == PROXY_CLOSED);
+    proxy_close(&p);
+    /* it is gone, and its message was whole */
+    peer = pair(&p);
+    send_message(peer, header(DEVICE_RESET, 0), 0);
+    close(peer);
+    CHECK(proxy_receive(&p, 0) == PROXY_OK && proxy_receive(&p, 0) == PROXY_CLOSED);
+    proxy_close(&p);
     close(closed);
     CHECK(proxy_open(&p, closed, NULL) == PROXY_BROKEN);
     CHECK(proxy_open(&p, -1, NULL) == PROXY_OK && proxy_feed(&p, NULL, 0, NULL, 0, false, 0) == PROXY_OK);
+    CHECK(proxy_feed(&p, NULL, 0, (const int[]){1000000}, 1, false, 0) == PROXY_COUNT && proxy_open(&p, -1, NULL) == PROXY_OK);
     uint8_t much[PROXY_MESSAGE + 1] = {0};
     CHECK(proxy_feed(&p, much, sizeof much, NULL, 0, false, 0) == PROXY_SIZE);
     for (int e = 0; e < PROXY_ERRORS; e++) CHECK(strlen(proxy_words((proxy_error)e)) > 5);
@@ -344,10 +250,8 @@ int main(void) {
     test_regions();
     test_replies();
     test_bytewise();
-    test_descriptors();
     test_attribution();
     test_borders();
-    test_floods();
     test_odd();
     return checks_end();
 }

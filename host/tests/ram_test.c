@@ -1,6 +1,8 @@
 /* The simulated drive, and data pointers. Expected completions are written out by hand from the NVMe specifications. */
 #include <fcntl.h>
+#include <signal.h>
 #include <stdlib.h>
+#include <sys/resource.h>
 #include <sys/stat.h>
 #include <sys/wait.h>
 #include <unistd.h>
@@ -95,6 +97,12 @@ static void test_data(void) {
     good = true;
     for (unsigned i = 0; i < 12288; i++) good = good && memory[DATA + i] == (uint8_t)(i * 7 + i / 512);
     CHECK(good);
+    /* two pages, the second of which PRP2 names itself */
+    for (unsigned i = 0; i < 8192; i++) memory[i < 4096 ? DATA + i : 0x98000 + i - 4096] = 0;
+    CHECK(run(d, (entry){2, 0, 1, DATA, 0x98000, 700, 15}) == 0);
+    good = true;
+    for (unsigned i = 0; i < 8192; i++) good = good && memory[i < 4096 ? DATA + i : 0x98000 + i - 4096] == (uint8_t)(i * 7 + i / 512);
+    CHECK(good);
     /* Write Zeroes, then Dataset Management of two ranges */
     CHECK(run(d, (entry){8, 0, 1, 0, 0, 701, 0}) == 0);
     memset(memory + DATA, 0, 512);
@@ -115,6 +123,16 @@ static void test_data(void) {
     CHECK(run(d, (entry){9, 0, 1, DATA + 0x1ff0, 0x99000, (UINT64_C(4) << 32) | 1, 0}) == (0x4080 << 1 & 0xffff));
     CHECK(run(d, (entry){5, 0, 1, DATA, 0, 705, 0}) == 0x285 << 1);
     CHECK(run(d, (entry){0, 0, 1, 0, 0, 0, 0}) == 0 && run(d, (entry){0, 0, UINT32_MAX, 0, 0, 0, 0}) == 0);
+    /* 256 ranges, of which the last is of use; those that are not deallocated have no effect, whatever else they say */
+    memset(memory + 0x98000, 0, 4096);
+    put32(memory + 0x98ff4, 1);
+    put64(memory + 0x98ff8, 705);
+    CHECK(run(d, (entry){9, 0, 1, 0x98000, 0, (UINT64_C(3) << 32) | 255, 0}) == 0 && run(d, (entry){5, 0, 1, DATA, 0, 705, 0}) == 0x285 << 1);
+    CHECK(run(d, (entry){9, 0, 1, 0x98000, 0, (UINT64_C(4) << 32) | 255, 0}) == 0);
+    memset(memory + DATA, 0, 512);
+    CHECK(run(d, (entry){5, 0, 1, DATA, 0, 705, 0}) == 0 && run(d, (entry){5, 0, 1, DATA, 0, 706, 0}) == 0x285 << 1);
+    /* more blocks than a Write may have */
+    CHECK(run(d, (entry){8, 0, 1, 0, 0, 0, BLOCKS - 1}) == 0 && run(d, (entry){5, 0, 1, DATA, 0, 706, 0}) == 0);
     CHECK(drive_close(d, &r));
 }
 
@@ -126,6 +144,7 @@ static void test_refused(void) {
         {{3, 0, 1, DATA, 0, 0, 0}, 0x4001},
         {{0xff, 0, 1, DATA, 0, 0, 0}, 0x4001},
         {{2, 1, 1, DATA, 0, 0, 0}, 0x4002},
+        {{2, 2, 1, DATA, 0, 0, 0}, 0x4002},
         {{2, 0x40, 1, DATA, 0, 0, 0}, 0x4002},
         {{2, 0x80, 1, DATA, 0, 0, 0}, 0x4002},
         {{2, 0, 0, DATA, 0, 0, 0}, 0x400b},
@@ -143,16 +162,19 @@ static void test_refused(void) {
         {{2, 0, 1, DATA + 1, 0, 0, 0}, 0x4013},
         {{2, 0, 1, DATA + 2, 0, 0, 0}, 0x4013},
         {{2, 0, 1, DATA + 0xfe00, DATA + 4, 0, 7}, 0x4013},
+        {{2, 0, 1, DATA + 0xfe00, DATA + 8, 0, 7}, 0x4013},
         {{2, 0, 1, DATA, LIST + 4, 0, 255}, 0x4013},
         {{2, 0, 1, LOW - 512, 0, 0, 0}, 0x4004},
         {{2, 0, 1, 0x8fe04, 0x90000, 0, 0}, 0x4004},
         {{1, 0, 1, 0x90000, 0, 0, 0}, 0x4004},
+        {{1, 0, 1, 0x90000, DATA, 0, 0}, 0x4004},
         {{1, 0, 1, UINT64_MAX - 510, 0, 0, 0}, 0x4013},
         {{1, 0, 1, UINT64_MAX & ~UINT64_C(511), 0, 0, 0}, 0x4004},
         {{2, 0, 1, DATA, 0x9a000, 0, 15}, 0x4004},
         {{2, 0, 1, DATA, 0x9a000, 0, 255}, 0x4004},
         {{2, 0, 1, DATA, LIST, 0, 255}, 0x4013},
         {{2, 0, 1, DATA, LIST + 0x1000, 0, 255}, 0x4004},
+        {{2, 0, 1, DATA, LIST + 0xff8, 0, 255}, 0x4013},
         {{9, 0, 1, 0x90000, 0, UINT64_C(4) << 32, 0}, 0x4004},
         {{9, 0, 1, DATA + 0xff8, 0x90000, (UINT64_C(4) << 32) | 255, 0}, 0x4004},
     };
@@ -161,6 +183,7 @@ static void test_refused(void) {
         put64(memory + LIST + 8 * i, DATA + 0x1000 * (i + 1) + (i == 20 ? 8u : 0u));        /* an offset in the list */
         put64(memory + LIST + 0x1000 + 8 * i, i == 30 ? 0x9a000 : DATA + 0x1000 * (i + 1)); /* a page outside of the window */
     }
+    put64(memory + LIST + 0xff8, LIST + 0x1008); /* the next page of the list, with an offset */
     static uint8_t before[MEMORY];
     for (size_t i = 0; i < sizeof bad / sizeof bad[0]; i++) {
         char what[40];
@@ -176,6 +199,9 @@ static void test_refused(void) {
 static void test_rings(void) {
     drive *d = begin(NULL);
     entry e = {0, 0, 1, 0, 0, 0, 0};
+    unsigned dirty = 0;
+    for (unsigned i = 0; i < 65 * 16; i++) dirty += memory[CQ + i] != 0;
+    CHECK(dirty == 0 && memory[CQ - 1] == 0xee && memory[CQ + 65 * 16] == 0xee);
     for (uint16_t i = 0; i < 200; i++) {
         put_entry(&e, i);
         CHECK(drive_ring_submission(d, 0, tail, &r) && drive_work(d, 1) == 1);
@@ -201,7 +227,7 @@ static void test_lanes(void) {
         {SQ, CQ, 1, 65}, {SQ, CQ, 65, 1},       {SQ, CQ, 65537, 65},   {SQ + 64, CQ, 65, 65},           {SQ, CQ + 16, 65, 65},
         {0, CQ, 65, 65}, {SQ, 0x90000, 65, 65}, {0x8f000, CQ, 65, 65}, {UINT64_MAX - 4095, CQ, 65, 65},
     };
-    nvme_lane two[2] = {{SQ, CQ, 65, 65}, {0x14000, 0x16000, 3, 3}};
+    nvme_lane two[2] = {{SQ, CQ, 65, 33}, {0x14000, 0x16000, 3, 3}};
     window_begin(&w, memory);
     CHECK(window_add(&w, LOW, 0x80000, &r));
     drive *d = drive_open_ram(&w, 1, NULL, &r);
@@ -209,13 +235,26 @@ static void test_lanes(void) {
         CHECK(!drive_create_lanes(d, &bad[i], 1, &r));
         CHECK_HAS(r.text, "the rings of lane 0");
     }
+    /* more slots than there may be, where there is room for them */
+    static const nvme_lane wide[] = {{0x1000000, CQ, 65537, 65}, {SQ, 0x1000000, 65, 65537}};
+    CHECK(window_add(&w, 0x1000000, 0x800000, &r) && !drive_create_lanes(d, &wide[0], 1, &r) && !drive_create_lanes(d, &wide[1], 1, &r));
     CHECK(!drive_create_lanes(d, two, 0, &r) && !drive_create_lanes(d, two, 9, &r));
     CHECK(drive_create_lanes(d, two, 2, &r) && !drive_create_lanes(d, two, 2, &r));
+    CHECK(drive_ring_submission(d, 0, 64, &r) && drive_ring_submission(d, 0, 0, &r) && drive_ring_completion(d, 0, 32, &r) &&
+          drive_ring_completion(d, 0, 0, &r) && !drive_ring_completion(d, 0, 33, &r));
     memset(memory + SQ, 0, 128);
     memset(memory + 0x14000, 0, 128);
     CHECK(drive_ring_submission(d, 0, 2, &r) && drive_ring_submission(d, 1, 2, &r) && drive_work(d, 3) == 3 && drive_work(d, 3) == 1);
     CHECK(get32(memory + CQ + 8) == 0x00010001 && get32(memory + 0x16000 + 24) == 0x00020002); /* head, then queue pair */
+    CHECK(drive_ring_submission(d, 1, 0, &r) && drive_work(d, 1) == 0); /* no room before the end of the completion ring */
+    /* a lane with much to do leaves the other its turn */
+    memset(memory + SQ + 128, 0, 128);
+    memset(memory + 0x14000 + 128, 0, 64);
+    CHECK(drive_ring_completion(d, 0, 2, &r) && drive_ring_completion(d, 1, 2, &r) && drive_ring_submission(d, 0, 4, &r) && drive_ring_submission(d, 1, 1, &r));
+    CHECK(drive_work(d, 2) == 2 && get32(memory + CQ + 40) == 0x00010003 && get32(memory + 0x16000 + 40) == 0x00020000);
     CHECK(drive_close(d, &r));
+    CHECK(!drive_open_ram(&w, (UINT64_C(1) << 37) + 1, NULL, &r));
+    CHECK_HAS(r.text, "137438953473 blocks, not 1 to 2^37");
     CHECK(!drive_open_ram(&w, 0, NULL, &r) && !drive_open_ram(&w, (UINT64_C(1) << 37) + 1, NULL, &r) && !drive_open_ram(&w, UINT64_MAX, NULL, &r));
 }
 
@@ -224,8 +263,10 @@ static void test_image(void) {
     int fd = mkstemp(path);
     unsigned before = open_descriptors();
     CHECK(fd >= 0 && write(fd, "abc", 3) == 3);
+    unsigned inherited = inherited_descriptors();
     drive *d = begin(path);
     CHECK_MORE(d != NULL, r.text);
+    CHECK(is_mapped(path + 5) && inherited_descriptors() == inherited);
     struct stat about;
     CHECK(fstat(fd, &about) == 0 && about.st_size == BLOCKS * 512);
     CHECK(run(d, (entry){2, 0, 1, DATA, 0, 0, 0}) == 0 && !memcmp(memory + DATA, "abc\0", 4));
@@ -241,8 +282,16 @@ static void test_image(void) {
     int status = -1;
     CHECK(waitpid(child, &status, 0) == child && status == 0);
     CHECK(drive_close(d, &r));
-    CHECK(open_descriptors() == before);
+    CHECK(open_descriptors() == before && !is_mapped(path + 5));
     CHECK(close(fd) == 0 && unlink(path) == 0);
+    /* a file that was not there is for this user alone; a file system without room is found out */
+    d = drive_open_ram(&w, BLOCKS, path, &r);
+    CHECK(d && stat(path, &about) == 0 && (about.st_mode & 0777) == 0600 && about.st_size == BLOCKS * 512 && drive_close(d, &r) && unlink(path) == 0);
+    struct rlimit limit;
+    CHECK(getrlimit(RLIMIT_FSIZE, &limit) == 0 && signal(SIGXFSZ, SIG_IGN) != SIG_ERR);
+    CHECK(setrlimit(RLIMIT_FSIZE, &(struct rlimit){4096, limit.rlim_max}) == 0 && !drive_open_ram(&w, BLOCKS, path, &r));
+    CHECK_HAS(r.text, "cannot have 524288 bytes: File too large");
+    CHECK(setrlimit(RLIMIT_FSIZE, &limit) == 0 && unlink(path) == 0);
     CHECK(!drive_open_ram(&w, BLOCKS, "/tmp", &r));
     CHECK_HAS(r.text, "/tmp: cannot open: Is a directory");
     CHECK(!drive_open_ram(&w, BLOCKS, "/dev/null", &r));

@@ -40,6 +40,8 @@ static void test_counts(void) {
     count(0x01, (UINT64_C(1) << 47) + 9, 255);
     is("guest 0: 4 commands, 1024 bytes read, 4096 written; guest 1: 2 commands, 0 bytes read, 131072 written; 0 others");
     is("guest 0: 0 commands, 0 bytes read, 0 written; guest 1: 0 commands, 0 bytes read, 0 written; 0 others");
+    count(0x02, 110, 0xffff); /* the most blocks that an entry may name */
+    is("guest 0: 0 commands, 0 bytes read, 0 written; guest 1: 1 commands, 33554432 bytes read, 0 written; 0 others");
 }
 
 /* Flush and Dataset Management; blocks that are no guest's; an opcode that there is not. */

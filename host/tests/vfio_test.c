@@ -1,13 +1,8 @@
-/* The drive by VFIO, without VFIO: the paths lie under a folder of the test, ioctl is this file's, and the device's file is memory, in which a
+/* The drive by VFIO, without VFIO: the paths lie under a folder of the test, ioctl is that of fake_vfio.h, and the device's file is memory, in which a
  * thread plays the controller. Each step can be made to fail. */
-#include <errno.h>
 #include <fcntl.h>
-#include <linux/vfio.h>
 #include <pthread.h>
-#include <stdarg.h>
-#include <stdatomic.h>
 #include <stdlib.h>
-#include <sys/ioctl.h>
 #include <sys/mman.h>
 #include <sys/stat.h>
 #include <unistd.h>
@@ -15,96 +10,17 @@
 #include "check.h"
 #include "clock.h"
 #include "drive.h"
-#include "fake_nvme.h"
+#include "fake_vfio.h"
 #include "vfio.h"
 
-enum { MEMORY = 1 << 20, FROM = 0x10000, BAR_AT = 0x10000, BAR_BYTES = 0x4000 };
+enum { MEMORY = 1 << 20, FROM = 0x10000 };
 
-#define ADDRESS "0000:01:00.0"
-#define DEVICE "sys/bus/pci/devices/0000:01:00.0"
+#define DEVICE "sys/bus/pci/devices/" ADDRESS
 
 static char root[] = "/tmp/host-vfio-XXXXXX";
 static uint8_t *memory;
 static window w;
 static reason r;
-
-/* What the kernel and the device do. */
-static struct kernel {
-    unsigned long fail; /* the request that fails */
-    int error;
-    int version, extension;
-    uint32_t viable, device_flags, regions, bar_flags, range_count;
-    uint64_t bar_bytes;
-    struct vfio_iova_range range[3];
-    int file; /* of the device */
-    uint64_t mapped[4][3];
-    unsigned maps, resets;
-    fake nvme;
-    atomic_bool stop;
-} k;
-
-static int get_info(struct vfio_iommu_type1_info *info) {
-    struct vfio_iommu_type1_info_cap_iova_range cap = {.header = {VFIO_IOMMU_TYPE1_INFO_CAP_IOVA_RANGE, 1, 0}, .nr_iovas = k.range_count};
-    uint8_t all[sizeof *info + sizeof cap + sizeof k.range];
-    uint32_t room = info->argsz;
-    info->argsz = sizeof all;
-    info->flags = VFIO_IOMMU_INFO_CAPS;
-    info->cap_offset = room >= sizeof all ? sizeof *info : 0;
-    memcpy(all, info, sizeof *info);
-    memcpy(all + sizeof *info, &cap, sizeof cap);
-    memcpy(all + sizeof *info + sizeof cap, k.range, sizeof k.range);
-    memcpy(info, all, room < sizeof all ? room : sizeof all);
-    return 0;
-}
-
-static int get_region(struct vfio_region_info *info) {
-    info->flags = VFIO_REGION_INFO_FLAG_READ | VFIO_REGION_INFO_FLAG_WRITE;
-    info->offset = 0;
-    info->size = 256;
-    if (info->index == VFIO_PCI_BAR0_REGION_INDEX) {
-        info->flags = k.bar_flags;
-        info->offset = BAR_AT;
-        info->size = k.bar_bytes;
-    }
-    return 0;
-}
-
-static int map_dma(const struct vfio_iommu_type1_dma_map *map) {
-    if (k.maps == 4) abort();
-    k.mapped[k.maps][0] = map->iova;
-    k.mapped[k.maps][1] = map->size;
-    k.mapped[k.maps++][2] = map->vaddr;
-    return 0;
-}
-
-int ioctl(int fd, unsigned long request, ...) {
-    va_list arguments;
-    va_start(arguments, request);
-    void *argument = va_arg(arguments, void *);
-    va_end(arguments);
-    (void)fd;
-    if (request == k.fail) {
-        errno = k.error;
-        return -1;
-    }
-    switch (request) {
-    case VFIO_GET_API_VERSION: return k.version;
-    case VFIO_CHECK_EXTENSION: return k.extension;
-    case VFIO_GROUP_GET_STATUS: ((struct vfio_group_status *)argument)->flags = k.viable; return 0;
-    case VFIO_GROUP_SET_CONTAINER:
-    case VFIO_SET_IOMMU: return 0;
-    case VFIO_IOMMU_GET_INFO: return get_info(argument);
-    case VFIO_GROUP_GET_DEVICE_FD: return strcmp(argument, ADDRESS) ? -1 : dup(k.file);
-    case VFIO_DEVICE_GET_INFO:
-        ((struct vfio_device_info *)argument)->flags = k.device_flags;
-        ((struct vfio_device_info *)argument)->num_regions = k.regions;
-        return 0;
-    case VFIO_DEVICE_RESET: k.resets++; return 0;
-    case VFIO_DEVICE_GET_REGION_INFO: return get_region(argument);
-    case VFIO_IOMMU_MAP_DMA: return map_dma(argument);
-    default: abort();
-    }
-}
 
 static void *play(void *unused) {
     uint8_t *at = mmap(NULL, BAR_BYTES, PROT_READ | PROT_WRITE, MAP_SHARED, k.file, BAR_AT);
@@ -162,11 +78,13 @@ static void begin(void) {
                         .regions = 9,
                         .bar_flags = 7,
                         .bar_bytes = BAR_BYTES,
+                        .config_bytes = 256,
+                        .cap_id = VFIO_IOMMU_TYPE1_INFO_CAP_IOVA_RANGE,
                         .range_count = 2,
                         .range = {{0, 0xfedfffff}, {0xfef00000, UINT64_MAX}}};
     k.device_flags = VFIO_DEVICE_FLAGS_PCI | VFIO_DEVICE_FLAGS_RESET;
     k.file = memfd_create("device", MFD_CLOEXEC);
-    if (k.file < 0 || ftruncate(k.file, BAR_AT + BAR_BYTES) || pwrite(k.file, config, 256, 0) != 256) abort();
+    if (k.file < 0 || ftruncate(k.file, BAR_AT + BAR_BYTES) || pwrite(k.file, config, 256, CONFIG_AT) != 256) abort();
     memset(memory, 0, MEMORY);
     fake_begin(&k.nvme, memory, MEMORY);
     k.nvme.cap |= 60 << 24; /* 30 s to become ready, since its thread may have to wait */
@@ -185,7 +103,6 @@ static const nvme_needs one = {FROM, 4096, 1};
 static void test_good(void) {
     static const nvme_lane lane = {0x80000, 0x82000, 65, 65};
     char text[200];
-    uint16_t command = 0;
     uint32_t bell = 0;
     pthread_t thread;
     begin();
@@ -197,16 +114,42 @@ static void test_good(void) {
     CHECK_HAS(text, "0000:01:00.0: A fake controller, serial SN 1");
     CHECK(k.maps == 2 && k.mapped[0][0] == FROM && k.mapped[0][1] == 0x40000 && k.mapped[0][2] == (uintptr_t)memory + FROM);
     CHECK(k.mapped[1][0] == 0x80000 && k.mapped[1][1] == 0x80000 && k.mapped[1][2] == (uintptr_t)memory + 0x80000 && k.resets == 1);
-    CHECK(pread(k.file, &command, 2, 4) == 2 && command == 0x407);
+    CHECK(command_now() == 0x407 && k.violations == 0);
     CHECK_MORE(drive_create_lanes(d, &lane, 1, &r), r.text);
     CHECK(drive_ring_submission(d, 0, 5, &r) && pread(k.file, &bell, 4, BAR_AT + 0x1008) == 4 && bell == 5);
     CHECK(drive_ring_completion(d, 0, 6, &r) && pread(k.file, &bell, 4, BAR_AT + 0x100c) == 4 && bell == 6);
     CHECK(!drive_ring_submission(d, 1, 0, &r) && drive_check(d, &r) && drive_work(d, 5) == 0);
     CHECK_MORE(drive_close(d, &r), r.text);
-    CHECK(pread(k.file, &command, 2, 4) == 2 && command == 0x403);
+    CHECK(command_now() == 0x403);
     atomic_store(&k.stop, true);
     pthread_join(thread, NULL);
-    CHECK(k.nvme.shutdowns == 1 && k.nvme.deleted == 2 && open_descriptors() == before);
+    CHECK(k.nvme.shutdowns == 1 && k.nvme.deleted == 2 && open_descriptors() == before && !is_mapped("memfd:device"));
+}
+
+/* The controller is gone when it is closed. */
+static void test_gone(void) {
+    const uint32_t ones = UINT32_MAX;
+    pthread_t thread;
+    begin();
+    if (pthread_create(&thread, NULL, play, NULL)) abort();
+    drive *d = drive_vfio_under(root, &w, &one, ADDRESS, &r);
+    atomic_store(&k.stop, true);
+    pthread_join(thread, NULL);
+    CHECK(d && pwrite(k.file, &ones, 4, BAR_AT + FAKE_CSTS) == 4 && !drive_close(d, &r));
+    CHECK_HAS(r.text, "is gone");
+    CHECK(command_now() == 0x403);
+}
+
+/* The device is kept from other programs, and closed once. */
+static void test_twice(void) {
+    vfio v;
+    begin();
+    unsigned inherited = inherited_descriptors();
+    CHECK(pwrite(k.file, "\x06", 1, CONFIG_AT + 4) == 1); /* memory and bus mastering are on */
+    CHECK(vfio_open(&v, root, ADDRESS, &r) && inherited_descriptors() == inherited && k.violations == 0 && command_now() == 0x402);
+    vfio_close(&v);
+    CHECK(!v.bar && v.device == -1 && v.group == -1 && v.container == -1 && !is_mapped("memfd:device"));
+    vfio_close(&v);
 }
 
 static void refused(const char *part) {
@@ -223,6 +166,9 @@ static void test_paths(void) {
     begin(), put_file(DEVICE "/driver", "../nvme"), refused("0000:01:00.0 has the driver nvme: bind it to vfio-pci");
     begin(), remove_file(DEVICE "/iommu_group"), refused("is in no group of an I/O MMU");
     begin(), put_file(DEVICE "/iommu_group", "../"), refused("is in no group of an I/O MMU");
+    char longer[65] = "";
+    memset(longer, 'a', 64);
+    begin(), put_file(DEVICE "/driver", longer), refused("0000:01:00.0 has no driver: bind it to vfio-pci");
     begin();
     CHECK(!drive_vfio_under(root, &w, &one, "0000:02:00.0", &r));
     CHECK_HAS(r.text, "there is no PCI device 0000:02:00.0");
@@ -250,6 +196,7 @@ static void test_steps(void) {
     };
     for (size_t i = 0; i < sizeof steps / sizeof steps[0]; i++) begin(), k.fail = steps[i].request, k.error = ENOTTY, refused(steps[i].part);
     begin(), k.fail = VFIO_IOMMU_MAP_DMA, k.error = ENOMEM, refused("is the limit of locked memory, ulimit -l, large enough?");
+    begin(), k.fail = VFIO_IOMMU_GET_INFO, k.passes = 1, k.error = EINVAL, refused("the I/O MMU does not say what it can do: Invalid argument");
     begin(), k.version = 1, refused("has version 1 of VFIO, not 0");
     begin(), k.extension = 0, refused("has no I/O MMU of type 1 version 2");
     begin(), k.viable = 0, refused("group 7 has devices that are not bound to vfio-pci");
@@ -257,14 +204,26 @@ static void test_steps(void) {
     begin(), k.regions = 7, refused("is no PCI device");
     begin(), k.bar_flags = 3, refused("BAR0 cannot be mapped");
     begin(), k.bar_flags = 5, refused("BAR0 cannot be read and written");
+    begin(), k.bar_flags = 6, refused("BAR0 cannot be read and written");
+    begin(), k.config_bytes = 63, refused("the device's configuration space has 63 bytes only");
+    begin(), k.bar_bytes = 4095, refused("the device's BAR0 has 4095 bytes");
     begin(), k.bar_bytes = 0, refused("the device's BAR0 has 0 bytes");
     begin(), k.bar_bytes = UINT64_C(1) << 32, refused("the device's BAR0 has 4294967296 bytes");
-    begin(), CHECK(pwrite(k.file, "\x02\x06\x01", 3, 9) == 3), refused("is no NVMe controller: its class is 0x010602");
+    begin(), CHECK(pwrite(k.file, "\x02\x06\x01", 3, CONFIG_AT + 9) == 3), refused("is no NVMe controller: its class is 0x010602");
     begin(), k.range[0].end = 0x4ffff, k.range[1].start = 0x80001, refused("cannot translate all of 0x80000 and 0x80000 bytes");
     begin(), k.range_count = 1, k.range[0].start = 0x11000, refused("cannot translate all of 0x10000 and 0x40000 bytes");
+    begin(), k.range[0].end = 0x4fffe, refused("cannot translate all of 0x10000 and 0x40000 bytes");
     CHECK(k.maps == 0);
+    /* where the device cannot be reset by itself nothing is asked of it */
     uint64_t nothing = UINT64_MAX;
-    begin(), CHECK(pwrite(k.file, &nothing, 8, BAR_AT) == 8), refused("there is no controller");
+    begin(), k.device_flags = VFIO_DEVICE_FLAGS_PCI;
+    CHECK(pwrite(k.file, &nothing, 8, BAR_AT) == 8), refused("there is no controller");
+    CHECK(k.resets == 0 && k.violations == 0);
+    /* a command register that does not do what it is told: bits that stay 0, and bus mastering that stays; a file that is appended to plays it */
+    for (unsigned stays = 0; stays < 2; stays++) {
+        begin(), CHECK(pwrite(k.file, stays ? "\x06\x04" : "\x00\x04", 2, CONFIG_AT + 4) == 2 && fcntl(k.file, F_SETFL, O_APPEND) == 0);
+        refused(stays ? "the command register is 0x0406 after 0x0402 was written" : "the command register is 0x0400 after 0x0402 was written");
+    }
 }
 
 static void test_ranges(void) {
@@ -280,6 +239,20 @@ static void test_ranges(void) {
     begin(), k.range_count = UINT32_MAX; /* more than there are bytes */
     CHECK(vfio_find_ranges(&v, root, ADDRESS, &r) && v.ranges <= 3);
     vfio_close(&v);
+    /* a range that ends before it begins; a list of capabilities without end; one of another kind; places and sizes that cannot be */
+    begin(), k.range[0] = (struct vfio_iova_range){0x5000, 0x4000};
+    CHECK(vfio_find_ranges(&v, root, ADDRESS, &r) && v.ranges == 1 && v.range[0].from == 0xfef00000);
+    vfio_close(&v);
+    begin(), k.cap_next = sizeof(struct vfio_iommu_type1_info);
+    CHECK(vfio_find_ranges(&v, root, ADDRESS, &r) && v.ranges == DRIVE_RANGES);
+    vfio_close(&v);
+    const uint32_t whole = sizeof(struct vfio_iommu_type1_info) + sizeof(struct vfio_iommu_type1_info_cap_iova_range) + sizeof k.range;
+    for (unsigned i = 0; i < 4; i++) {
+        begin(), k.cap_id = i == 0 ? 3 : k.cap_id, k.range[2].end = VFIO_IOMMU_TYPE1_INFO_CAP_IOVA_RANGE;
+        k.cap_at = i == 1 ? whole - 8 : i == 2 ? UINT32_MAX : 0, k.argsz = i == 3 ? 4 : 0;
+        CHECK(vfio_find_ranges(&v, root, ADDRESS, &r) && v.ranges == 1 && v.range[0].from == 0 && v.range[0].to == WINDOW_END);
+        vfio_close(&v);
+    }
     begin(), k.range[1] = (struct vfio_iova_range){WINDOW_END, UINT64_MAX};
     CHECK(vfio_find_ranges(&v, root, ADDRESS, &r) && v.ranges == 1);
     vfio_close(&v);
@@ -302,6 +275,8 @@ int main(void) {
     if (!memory || !mkdtemp(root)) return 3;
     put_folders();
     test_good();
+    test_gone();
+    test_twice();
     test_paths();
     test_steps();
     test_ranges();
