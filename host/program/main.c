@@ -15,7 +15,7 @@
 
 enum { ENDED = 0, FAILED = 1, USAGE = 2, DRIVE_FAILED = 3, POLLS = 3 * CONFIG_GUESTS, TICK = 1000 /* milliseconds */ };
 enum { LINES = 8 /* on a guest, in a second */ };
-enum { SPIN = 100 /* microseconds that a drive with commands is looked at without a pause */, NAP = 50 /* and the pauses after that */ };
+enum { SPIN = 100 /* microseconds after the last event without a pause */, NAP = 50 /* and the pauses after that, where the drive has commands */ };
 
 typedef struct host {
     config config;
@@ -160,11 +160,11 @@ static bool is_any_left(host *h) {
     return any;
 }
 
-/* How long guests may be waited for: not at all where more is due. A drive that has commands is looked at again soon: its completions lie in memory, and
- * nothing says that they came. */
+/* How long guests may be waited for: not at all where more is due, nor right after an event, since a guest often writes its next doorbell at once, and who
+ * waits wakes late. A drive that has commands is polled again soon: its completions lie in memory, and nothing says that they came. */
 static struct timespec longest_pause(const mediation *m) {
-    if (mediation_is_idle(m)) return (struct timespec){TICK / 1000, 0};
-    return (struct timespec){0, m->due || clock_microseconds() - m->moved < SPIN ? 0 : NAP * 1000};
+    if (m->due || clock_microseconds() - m->moved < SPIN) return (struct timespec){0, 0};
+    return mediation_is_idle(m) ? (struct timespec){TICK / 1000, 0} : (struct timespec){0, NAP * 1000};
 }
 
 /* Until a signal comes, no guest is left, or the drive has failed and the guests were answered. The status of the program. */
