@@ -25,7 +25,7 @@ use Rattle.nv_mediator.specs.Hosted.{Hosted, hosted_world}
 use Rattle.nv_plan.specs.declared.job.Job.{Job}
 use Rattle.nv_world_model.specs.Area.{tag_count}
 use Rattle.nv_tags.proofs.Rows.{is_among}
-use Rattle.nv_world_model.specs.Device.{DeviceLane, Held}
+use Rattle.nv_world_model.specs.Device.{DeviceLane}
 use Rattle.nv_world_model.specs.Due.{due, is_due_kind}
 use Rattle.nv_world_model.specs.Geometry.{Geometry, Guest}
 use Rattle.nv_world_model.specs.Seat.{owner_by, owner_of}

@@ -1,6 +1,6 @@
 -- Events that work makes in a row, and what is left of a world where nothing of a scope comes next.
 use Rattle.std.proofs.Common.{◌≡◌, refl, sym, subst, ap, ◌∙◌, ℕ, zero, suc, ◌+◌, ◌-◌, ◌<◌, ◌≤◌, false, arith}
-use Rattle.std.proofs.Common.{List, [], ◌∷◌, ◌++◌, length, length-append, slice_get, Option, Some, None}
+use Rattle.std.proofs.Common.{slice_get, Option, Some, None}
 use Rattle.nv_c.specs.Work.{GivesUp, HasEnough, IsOneMade, IsStarved, IsTurn, IsWork, Leads, LeadsUp, MayGiveUp, Rests, turn_with}
 use Rattle.nv_c.specs.declared.working.Scope.{Scope}
 use Rattle.nv_c.specs.declared.working.Turn.{Turn}

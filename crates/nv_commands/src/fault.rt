@@ -78,6 +78,10 @@ impl Fault {
 }
 
 /// Reports a fault on one line, and flushes it.
+///
+/// # Errors
+///
+/// Where the line cannot be written or flushed. Some of it may have been written then.
 pub fn report<E: Write>(fault: Fault, faults: &mut E) -> io::Result<()>
     ensures { OnOk result (Appends (E.contents faults.old) (E.contents faults.new) (text_of fault ++ line_feed)) }
 {

@@ -16,7 +16,7 @@ use Rattle.nv_entry.specs.declared.status_code.StatusCode.TheVariants.{Success}
 use Rattle.nv_laws_sound.proofs.Lists.{length-set, slice_get-there}
 use Rattle.nv_model.specs.Transcript.{ReadDone}
 use Rattle.nv_plan.specs.Made.{MadePlan, share_made, shares_made}
-use Rattle.nv_tags.specs.Tags.{Leads, Point, Slot, command_in, group, moved_to, slot_at, slot_or_free, state_at, state_of, with_point}
+use Rattle.nv_tags.specs.Tags.{Point, Slot, command_in, group, moved_to, slot_at, slot_or_free, state_at, state_of, with_point}
 use Rattle.nv_tags.specs.Tags as slot
 use Rattle.nv_tags.specs.declared.state.TagState.TheVariants as state
 use Rattle.nv_world_model.specs.Share.{Share}

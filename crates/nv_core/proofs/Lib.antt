@@ -26,6 +26,7 @@ pub mod PostParts
 pub mod Posts
 pub mod TagLists
 pub mod LaneTags
+pub mod MarkedLanes
 pub mod MarkedTags
 pub mod HeldTags
 pub mod Claims

@@ -3,6 +3,7 @@ pub mod State
 pub mod Front
 pub mod FullQueues
 pub mod Kept
+pub mod News
 pub mod Noted
 pub mod Held
 pub mod Reaping

@@ -1,10 +1,11 @@
 //! The tags of a lane: those whose commands are at one point, and how many a guest has.
 
-ghost use Rattle.std.specs.Prelude.{◌≡◌, ◌<◌, ◌||◌, length, nat_lt, slice_get};
+ghost use Rattle.std.specs.Prelude.{◌≡◌, ◌<◌, slice_get};
 ghost use Rattle.nv_core.specs.Held.{held_in};
 ghost use Rattle.nv_core.specs.Kept.{IsLent};
-ghost use Rattle.nv_core.specs.Reaping.{waits_in};
+ghost use Rattle.nv_core.specs.News.{has_news, is_busy};
 ghost use Rattle.nv_core.specs.Tags.{ended_in, flying_in, taken_in};
+ghost use Rattle.nv_vctl.specs.Next.{IsNext};
 ghost use Rattle.nv_world_model.specs.SetUp.{most_guests};
 
 use crate::front::Front;
@@ -29,14 +30,41 @@ impl Front {
     #[inline(always)]
     pub fn has_news<C: MemoryCell>(&self, layout: &Layout, lane: u8, host: &[C]) -> bool
         requires { IsLent layout.now self.now (C.bytes host.now) }
-        ensures { result ≡ (nat_lt 0 (length (ended_in (slice_get self.now.lanes lane)))
-            || waits_in layout.now lane (slice_get self.now.lanes lane) (C.bytes host.now)) }
+        ensures { result ≡ has_news layout.now lane (slice_get self.now.lanes lane) (C.bytes host.now) }
     {
         let mut ended = self.ended(lane);
         if ended.pop().is_some() {
             return true;
         }
         self.reap_due(layout, lane, host)
+    }
+
+    // The same, or whether some command waits for its plan.
+    #[inline(always)]
+    fn is_busy<C: MemoryCell>(&self, layout: &Layout, lane: u8, host: &[C]) -> bool
+        requires { IsLent layout.now self.now (C.bytes host.now) }
+        ensures { result ≡ is_busy layout.now lane (slice_get self.now.lanes lane) (C.bytes host.now) }
+    {
+        let mut taken = self.taken(lane);
+        if taken.pop().is_some() {
+            return true;
+        }
+        self.has_news(layout, lane, host)
+    }
+
+    /// The first lane, from number `from` on and below number `to`, of which something may be due: a command waits for its plan, some part has ended, or a
+    /// completion of the physical controller waits. It is `to` where that is none of them.
+    #[inline(never)]
+    pub fn next_busy<C: MemoryCell>(&self, layout: &Layout, from: u8, to: u8, host: &[C]) -> u8
+        requires { IsLent layout.now self.now (C.bytes host.now) }
+        ensures { IsNext (λ lane. is_busy layout.now lane (slice_get self.now.lanes lane) (C.bytes host.now)) from to result }
+    {
+        for lane in from..to {
+            if self.is_busy(layout, lane, host) {
+                return lane;
+            }
+        }
+        to
     }
 
     /// The tags of a lane whose parts are with the physical controller, in order; none where there is no such lane.

@@ -3,9 +3,11 @@
 //! A guest is noted whenever its controller may have changed, and not any more once nothing is due of its queues whatever is in memory. So whoever looks for
 //! what is due passes by the guests that are not noted.
 
-ghost use Rattle.std.specs.Prelude.{◌≡◌, ◌<◌, ◌==◌, ℕ, IsTrue, false, slice_get};
+ghost use Rattle.std.specs.Prelude.{◌≡◌, ◌+◌, ◌<◌, ◌==◌, ℕ, IsTrue, false, slice_get};
 ghost use Rattle.std.specs.List.{list_any};
 ghost use Rattle.nv_core.specs.Noted.{IsNoted, IsQuiet, IsSettled, Rests, has_front};
+ghost use Rattle.nv_model.specs.Limits.{last_queue};
+ghost use Rattle.nv_vctl.specs.Next.{IsNext};
 ghost use Rattle.nv_world_model.specs.SetUp.{most_guests};
 
 use crate::front::Front;
@@ -38,6 +40,17 @@ impl Front {
             return false;
         }
         self.controllers[number].waits(queue)
+    }
+
+    /// The first I/O queue of a guest, from number `from` on, of which a command may be taken ([`Front::waits`]); 9 where it is none.
+    pub fn next_waiting(&self, guest: u8, from: u16) -> u16
+        ensures { IsNext (λ queue. has_front queue (slice_get self.now.controllers guest)) from (last_queue + 1) result }
+    {
+        let number = usize::from(guest);
+        if number >= self.controllers.len() {
+            return LAST_QUEUE + 1;
+        }
+        self.controllers[number].next_waiting(from)
     }
 
     /// The guest isn't noted any more, where nothing is due of its queues whatever is in memory.
@@ -78,10 +91,8 @@ fn is_quiet(vctl: &Vctl) -> bool
     if nv_admin::is_due(vctl) {
         return false;
     }
-    for queue in 1..=LAST_QUEUE {
-        if vctl.waits(queue) {
-            return false;
-        }
+    if vctl.next_waiting(1) <= LAST_QUEUE {
+        return false;
     }
     true
 }

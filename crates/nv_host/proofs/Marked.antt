@@ -1,6 +1,5 @@
 -- Tags that are not among those at a point: none of their commands waits for its plan, or has ended.
-use Rattle.std.proofs.Common.{◌≡◌, refl, sym, ap, ◌∙◌, ℕ, zero, suc, ◌+◌, ◌||◌, ◌==◌, nat_lt, cond, Bool, true, false, List, [], ◌∷◌, length, map, slice_get, Option, None, Some, arith}
-use Rattle.std.specs.List.{enumerate_from, filter}
+use Rattle.std.proofs.Common.{◌≡◌, refl, sym, ap, ◌∙◌, ℕ, zero, suc, ◌+◌, ◌||◌, ◌==◌, nat_lt, Bool, true, false, List, [], ◌∷◌, length, slice_get, Option, None, Some, arith}
 use Rattle.std.proofs.lemmas.Bool.{eq-eqb, lt-ltb}
 use Rattle.std.proofs.lemmas.Option.{none-some}
 use Rattle.nv_core.proofs.HeldTags.{in-front, numbers as numbered}
@@ -133,6 +132,14 @@ pub no-part : (ended : List ℕ) (waits : Bool) → (nat_lt 0 (length ended) || 
 no-part [] waits none = (none, refl)
 no-part (tag ∷ tags) waits none =
     absurd (true-false (nat_lt 0 (length (tag ∷ tags)) || waits) (ap (λ (b : Bool). b || waits) (lt-ltb 0 (length (tag ∷ tags)) (omega arith))) none)
+
+-- what is not busy has no news, and no command that waits
+pub no-part-taken : (taken ended : List ℕ) (waits : Bool) → (nat_lt 0 (length taken) || (nat_lt 0 (length ended) || waits)) ≡ false
+    → (waits ≡ false) × (ended ≡ []) × (taken ≡ [])
+no-part-taken [] ended waits none = (let rest = no-part ended waits none in (rest.0, rest.1, refl))
+no-part-taken (tag ∷ tags) ended waits none =
+    absurd (true-false (nat_lt 0 (length (tag ∷ tags)) || (nat_lt 0 (length ended) || waits))
+    (ap (λ (b : Bool). b || (nat_lt 0 (length ended) || waits)) (lt-ltb 0 (length (tag ∷ tags)) (omega arith))) none)
 
 -- a lane where no completion waits, and no part has ended
 pub no-news : (s : Scene) (lane : ℕ) → waits_in s.served.setup.geometry lane (slice_get s.served.side.lanes lane) s.memory ≡ false

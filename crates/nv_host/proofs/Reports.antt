@@ -9,6 +9,7 @@ use Rattle.nv_host.specs.Passes.{IsOwn}
 use Rattle.nv_host.specs.Served.{IsDone, has_share, is_closed}
 use Rattle.nv_host.specs.Work.{IsDue, IsWork, NotDue, Scene}
 use Rattle.nv_host.specs.declared.worked.Scope.TheVariants as scope
+use Rattle.nv_laws.proofs.related.Goings.{not-telling}
 use Rattle.nv_laws.proofs.related.Ways.{device-way, either-way, guest-way, lane-way, owner-way, taken-way}
 use Rattle.nv_model.specs.Controller.{front}
 use Rattle.nv_model.specs.Transcript.{Outcome, ReadDone, Settled, Wanted}
@@ -31,17 +32,6 @@ use Rattle.nv_world_model.specs.declared.event.Event.TheVariants as event
 -- a reply reports nothing but that something was done
 abbrev ReportsDone : After → Type 0
 ReportsDone a = is_telling a.reply ≡ is_done a.reply
-
-not-telling : (r : Reply) → is_telling r ≡ false → is_done r ≡ false
-not-telling reply.Done none = none
-not-telling (reply.Bytes bytes) none = refl
-not-telling reply.Idle none = refl
-not-telling reply.Busy none = refl
-not-telling reply.Held none = refl
-not-telling reply.Stale none = refl
-not-telling reply.Unmapped none = refl
-not-telling reply.Ignored none = refl
-not-telling reply.NoMemory none = refl
 
 none-done : (w : World) (r : Reply) → is_telling r ≡ false → ReportsDone (replied r w)
 none-done w r none = none ∙ sym (not-telling r none)

@@ -1,5 +1,6 @@
 -- Passes one after another: over many parts, and over two.
-use Rattle.std.proofs.Common.{◌≡◌, refl, sym, subst, ℕ, ◌+◌, ◌-◌, ◌^◌, ◌<◌, ◌≤◌, arith, below_more}
+use Rattle.std.proofs.Common.{◌≡◌, refl, sym, subst, ℕ, ◌+◌, ◌-◌, ◌^◌, ◌<◌, ◌≤◌, arith, below_more, inl, inr}
+use Rattle.std.proofs.lemmas.Bool.{cases_lt}
 use Rattle.nv_host.proofs.Works.{ended-after, ended-enough, ended-few, ended-so, leads_more, leads_none, leads_zero}
 use Rattle.nv_host.specs.Passes.{IsPass}
 use Rattle.nv_host.specs.Work.{HasEnded, IsWorked, Leads, Rests, Scene}
@@ -91,6 +92,19 @@ module _ (sc : Scope) (most done i : ℕ) (P : Scene → ℕ → Type 0) (a b : 
   -- all parts
   pub round-end : (nothing : Type 0) (w : Worked) → w ≡ far done → (((k : ℕ) → k < i → P a k) → nothing) → IsPass sc nothing most w a b
   round-end nothing w e so = pass-far sc nothing most done w a b e so_far.leads so_far.few (λ zero. so (so_far.rests zero))
+
+  -- parts that are passed by, since nothing is found in them
+  pub round-skip : (j : ℕ) → ((k : ℕ) → i ≤ k → k < j → P b k) → IsRound sc most done j P a b
+  round-skip j none =
+      record {
+        leads = so_far.leads;
+        few = so_far.few;
+        rests = λ zero k below.
+            elim (cases_lt k i) [
+              | inl low ↦ so_far.rests zero k low
+              | inr high ↦ subst (λ (x : Scene). P x k) (leads_zero sc a b done so_far.leads zero) (none k high below)
+            ];
+      }
 
   -- a part with nothing, or with one event
   pub round-same : (c : Scene) → c ≡ b → P b i → IsRound sc most done (i + 1) P a c

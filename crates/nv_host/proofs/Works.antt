@@ -1,6 +1,6 @@
 -- Events that work makes in a row, and how a call ends after them.
 use Rattle.std.proofs.Common.{◌≡◌, refl, subst, ap, ◌∙◌, ℕ, ◌+◌, ◌-◌, ◌≤◌, arith}
-use Rattle.std.proofs.Common.{List, [], ◌∷◌, ◌++◌, length, length-append}
+use Rattle.std.proofs.Common.{List, [], ◌∷◌}
 use Rattle.nv_core.proofs.Sides.{own-side, own-world}
 use Rattle.nv_core.specs.Front.{IsBeside}
 use Rattle.nv_host.proofs.InRow.{give-by, leads-so, more-by, none-by, one-by, up-by, zero-by}

@@ -43,6 +43,10 @@ NothingWaitsAt s lane tag = (guest : ℕ) → NoneWaitsAt s guest lane tag
 abbrev pub NonePosts : Scene → (lane : ℕ) → Type 0
 NonePosts s lane = (tag : ℕ) → NotDue s (event.Post lane tag)
 
+-- nothing is due of a lane, and none of its commands waits for its plan
+abbrev pub LaneRests : Scene → (lane : ℕ) → Type 0
+LaneRests s lane = Rests (scope.Lane lane) s × ((tag : ℕ) → NothingWaitsAt s lane tag)
+
 -- that guest's command goes by that tag
 abbrev pub IsOwn : Scene → (guest lane tag : ℕ) → Type 0
 IsOwn s guest lane tag = holder_in (tag_in (slice_get s.served.side.lanes lane) tag) ≡ Some (let h : Holder = record { guest = guest; leader = tag } in h)

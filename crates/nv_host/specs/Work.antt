@@ -1,5 +1,5 @@
 -- What `HostMediator::work` does: what is due of a scope, event by event, until nothing is or as many were made as were asked for (profile).
-use Rattle.std.specs.Prelude.{◌≡◌, ◌+◌, ◌<◌, ◌≤◌, ◌&&◌, ℕ, ⊤, Bool, true, List, length, slice_get, IsSome, Option, Some, None, option_map}
+use Rattle.std.specs.Prelude.{◌≡◌, ◌<◌, ◌≤◌, ◌&&◌, ℕ, ⊤, Bool, true, List, slice_get, IsSome, Option, Some, None, option_map}
 use Rattle.nv_core.specs.Front.{IsBeside, IsReaped}
 use Rattle.nv_core.specs.Jobs.{holder_in, job_in}
 use Rattle.nv_core.specs.Reaping.{answer_of, waits_in}

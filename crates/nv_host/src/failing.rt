@@ -18,10 +18,7 @@ use crate::host_mediator::HostMediator;
 use nv_entry::{Cqe, StatusCode};
 use nv_mem::MemoryCell;
 use nv_model::Reply;
-use nv_model::limits::CQE_SIZE;
-
-/// How many tags a lane has.
-const TAGS: u8 = 64;
+use nv_model::limits::{CQE_SIZE, TAGS};
 
 impl HostMediator {
     /// The completions of a lane that are there are read, up to one that names no command.

@@ -1,9 +1,10 @@
 //! A guest's commands, taken from its queues.
 
-ghost use Rattle.std.specs.Prelude.{◌≡◌, ◌<◌, ◌≤◌, ℕ, IsTrue, false, length, slice_get};
+ghost use Rattle.std.specs.Prelude.{◌≡◌, ◌+◌, ◌<◌, ◌≤◌, ℕ, IsTrue, List, false, length, slice_get};
 ghost use Rattle.nv_core.specs.Noted.{has_front};
 ghost use Rattle.nv_host.specs.Passes.{IsPass};
 ghost use Rattle.nv_host.specs.Work.{Leads, NotDue, scene};
+ghost use Rattle.nv_model.specs.Limits.{last_queue};
 
 use crate::closing::Closed;
 use crate::host_mediator::HostMediator;
@@ -32,43 +33,30 @@ impl HostMediator {
         ensures len { length (C.bytes memory.new) ≡ length (C.bytes memory.old) }
     {
         let mut done: u64 = 0;
-        for queue in 1..=LAST_QUEUE {
+        let mut queue = self.next_waiting(guest, 1);
+        while queue <= LAST_QUEUE {
             if done >= turn {
                 return Worked::so_far(done);
             }
-            let pass = self.take_from(alloc, guest, queue, turn - done, most - done, memory);
+            let pass = self.take_lanes(alloc, guest, queue, turn - done, most - done, memory);
             let stopped = pass.has_stopped();
             let whole = Worked::after(done, pass);
             if stopped {
                 return whole;
             }
             done = whole.done;
+            queue = self.next_waiting(guest, queue + 1);
         }
         Worked::so_far(done)
     }
 
-    // Takes commands of a queue of the guest's, and plans them.
-    fn take_from<C: MemoryCell>(
-        &mut self,
-        alloc: Global,
-        guest: u8,
-        queue: u16,
-        turn: u64,
-        most: u64,
-        memory: &mut [C],
-    ) -> Worked
-        requires some { 0 < turn }
-        requires within { turn ≤ most }
-        requires lent { length (C.bytes memory.old) ≡ self.old.setup.host_bytes }
-        ensures pass { let old = scene self.old (C.bytes memory.old) in
-            IsPass (Scope.Guest guest) ((lane : ℕ) → NotDue old (Event.Take guest queue lane)) most result old (scene self.new (C.bytes memory.new)) }
-        ensures setup { self.new.setup ≡ self.old.setup }
-        ensures len { length (C.bytes memory.new) ≡ length (C.bytes memory.old) }
+    // The first queue of the guest's, from that number on, of which a command may be taken, where enough tags are free; 9 where it is none.
+    fn next_waiting(&self, guest: u8, from: u16) -> u16
+        ensures passed { (memory : List ℕ) (queue lane : ℕ) → from ≤ queue → queue < result → NotDue (scene self.now memory) (Event.Take guest queue lane) }
+        ensures on { result ≤ last_queue → from ≤ result }
+        ensures within { result ≤ last_queue + 1 }
     {
-        if !self.waits(guest, queue) {
-            return Worked::so_far(0);
-        }
-        self.take_lanes(alloc, guest, queue, turn, most, memory)
+        self.front.next_waiting(guest, from)
     }
 
     // Whether a command of a queue of the guest's may be taken, where enough tags are free.

@@ -1,4 +1,4 @@
-//! All commands that wait for their plans, whoever's they are, and those of one guest.
+//! The commands that wait for their plans: those of a lane, whoever's they are, and those of one guest.
 
 ghost use Rattle.std.specs.Prelude.{◌≡◌, ◌<◌, ◌≤◌, ℕ, length};
 ghost use Rattle.nv_host.specs.Passes.{IsPass, NoneWaits, NothingWaitsAt};
@@ -10,42 +10,9 @@ use nv_mem::MemoryCell;
 use std::alloc::Global;
 
 impl HostMediator {
-    /// The commands of all lanes that wait are planned and handed on. They have `turn` events, and the lists of the last command have as many more as
-    /// `most` allows.
-    pub(crate) fn plan_all<C: MemoryCell>(
-        &mut self,
-        alloc: Global,
-        turn: u64,
-        most: u64,
-        memory: &mut [C],
-    ) -> Worked
-        requires some { 0 < turn }
-        requires within { turn ≤ most }
-        requires lent { length (C.bytes memory.old) ≡ self.old.setup.host_bytes }
-        ensures pass { let old = scene self.old (C.bytes memory.old) in
-            IsPass Scope.All ((lane : ℕ) → lane < self.old.setup.lanes → (tag : ℕ) → NothingWaitsAt old lane tag) most result old
-            (scene self.new (C.bytes memory.new)) }
-        ensures setup { self.new.setup ≡ self.old.setup }
-        ensures len { length (C.bytes memory.new) ≡ length (C.bytes memory.old) }
-    {
-        let mut done: u64 = 0;
-        for lane in 0..self.lanes() {
-            if done >= turn {
-                return Worked::so_far(done);
-            }
-            let pass = self.plan_lane(alloc, lane, turn - done, most - done, memory);
-            let stopped = pass.has_stopped();
-            let whole = Worked::after(done, pass);
-            if stopped {
-                return whole;
-            }
-            done = whole.done;
-        }
-        Worked::so_far(done)
-    }
-
-    // The commands of a lane that wait.
-    fn plan_lane<C: MemoryCell>(
+    /// The commands of a lane that wait are planned and handed on. They have `turn` events, and the lists of the last command have as many more as `most`
+    /// allows.
+    pub(crate) fn plan_lane<C: MemoryCell>(
         &mut self,
         alloc: Global,
         lane: u8,

@@ -2,7 +2,7 @@
 
 ghost use Rattle.std.specs.Prelude.{◌≡◌, ◌<◌, ◌≤◌, ◌==◌, ℕ, IfOk, IsTrue, List, OnErr, Some, false, length, slice_get, true};
 ghost use Rattle.std.specs.List.{list_any};
-ghost use Rattle.nv_host.specs.Passes.{IsPass, NonePosts, QueuesRest};
+ghost use Rattle.nv_host.specs.Passes.{LaneRests, IsPass, NonePosts, QueuesRest};
 ghost use Rattle.nv_host.specs.Work.{IsStray, IsWorked, Leads, NotDue, Rests, scene};
 ghost use Rattle.nv_world_model.specs.Area.{tag_count};
 ghost use Rattle.nv_world_model.specs.SetUp.{most_guests};
@@ -25,8 +25,8 @@ impl HostMediator {
     /// Of a lane the drive's completions are read, and the commands that have ended are completed for their guests. Of a guest its admin commands are
     /// carried out; its commands that wait are planned and handed on, and others are taken. A command for whose plan there is no memory is given up.
     ///
-    /// It goes round until nothing is left: all lanes, the commands that wait for their plans, and then the queues of all guests. These commands together,
-    /// and each guest's queues, get 64 events at most before the next turn. The lists of a command that was begun are read up to their end, as far as `most`
+    /// It goes round until nothing is left: all lanes, each with its commands that wait for their plans, and then the queues of all guests. These commands of
+    /// a lane, and each guest's queues, get 64 events at most before the next turn. The lists of a command that was begun are read up to their end, as far as `most`
     /// allows, since a plan that is cut off begins again with what was read.
     ///
     /// A round costs what its events cost, and a look at each lane. Tags are looked at where their commands wait or have ended, and guests where a note says that
@@ -90,7 +90,7 @@ impl HostMediator {
         }
     }
 
-    // One round of all: the lanes, the commands that wait for their plans, and then the guests' queues.
+    // One round of all: the lanes with their commands that wait for their plans, and then the guests' queues.
     fn serve_all<C: MemoryCell>(&mut self, alloc: Global, most: u64, memory: &mut [C]) -> Worked
         requires some { 0 < most }
         requires lent { length (C.bytes memory.old) ≡ self.old.setup.host_bytes }
@@ -100,63 +100,74 @@ impl HostMediator {
         ensures len { length (C.bytes memory.new) ≡ length (C.bytes memory.old) }
     {
         self.sizes();
-        let lanes = self.serve_lanes(most, memory);
+        let lanes = self.serve_lanes(alloc, most, memory);
         if lanes.ends(most) {
             return lanes;
         }
         let done = lanes.done;
-        let rest = self.serve_all_guests(alloc, most - done, memory);
-        Worked::after(done, rest)
-    }
-
-    // The guests' side of such a round. Commands that wait for their plans have 64 events at most, and the lists of the last as many more as `most` allows.
-    fn serve_all_guests<C: MemoryCell>(
-        &mut self,
-        alloc: Global,
-        most: u64,
-        memory: &mut [C],
-    ) -> Worked
-        requires some { 0 < most }
-        requires lent { length (C.bytes memory.old) ≡ self.old.setup.host_bytes }
-        ensures pass { let old = scene self.old (C.bytes memory.old) in
-            IsPass Scope.All ((guest : ℕ) → guest < most_guests → Rests (Scope.Guest guest) old) most result old (scene self.new (C.bytes memory.new)) }
-        ensures setup { self.new.setup ≡ self.old.setup }
-        ensures len { length (C.bytes memory.new) ≡ length (C.bytes memory.old) }
-    {
-        self.sizes();
-        let planned = self.plan_all(alloc, most.min(TURN), most, memory);
-        if planned.ends(most) {
-            return planned;
-        }
-        let done = planned.done;
         let guests = self.serve_guests(alloc, most - done, memory);
         Worked::after(done, guests)
     }
 
-    // One round of all lanes.
-    fn serve_lanes<C: MemoryCell>(&mut self, most: u64, memory: &mut [C]) -> Worked
+    // One round of all lanes. Those of which nothing is due are passed by.
+    fn serve_lanes<C: MemoryCell>(&mut self, alloc: Global, most: u64, memory: &mut [C]) -> Worked
         requires some { 0 < most }
         requires lent { length (C.bytes memory.old) ≡ self.old.setup.host_bytes }
         ensures pass { let old = scene self.old (C.bytes memory.old) in
-            IsPass Scope.All ((lane : ℕ) → lane < self.old.setup.lanes → Rests (Scope.Lane lane) old) most result old
-            (scene self.new (C.bytes memory.new)) }
+            IsPass Scope.All ((lane : ℕ) → lane < self.old.setup.lanes → LaneRests old lane) most result old (scene self.new (C.bytes memory.new)) }
         ensures setup { self.new.setup ≡ self.old.setup }
         ensures len { length (C.bytes memory.new) ≡ length (C.bytes memory.old) }
     {
         let mut done: u64 = 0;
-        for lane in 0..self.lanes() {
+        let mut lane = self.next_busy(0, memory);
+        while lane < self.lanes() {
             if done >= most {
                 return Worked::so_far(done);
             }
-            let pass = self.serve_lane(lane, most - done, memory);
+            let pass = self.serve_busy(alloc, lane, most - done, memory);
             let stopped = pass.has_stopped();
             let whole = Worked::after(done, pass);
             if stopped {
                 return whole;
             }
             done = whole.done;
+            lane = self.next_busy(lane + 1, memory);
         }
         Worked::so_far(done)
+    }
+
+    // The first lane, from that number on, of which something may be due; how many there are, where that is none.
+    fn next_busy<C: MemoryCell>(&self, from: u8, memory: &[C]) -> u8
+        requires { length (C.bytes memory.now) ≡ self.now.setup.host_bytes }
+        ensures passed { (lane : ℕ) → from ≤ lane → lane < result → LaneRests (scene self.now (C.bytes memory.now)) lane }
+        ensures on { result < self.now.setup.lanes → from ≤ result }
+    {
+        self.front.next_busy(&self.layout, from, self.lanes, memory)
+    }
+
+    // A lane's round, and then its commands that wait for their plans. These have 64 events at most, and the lists of the last as many more as `most` allows.
+    #[inline(never)]
+    fn serve_busy<C: MemoryCell>(
+        &mut self,
+        alloc: Global,
+        lane: u8,
+        most: u64,
+        memory: &mut [C],
+    ) -> Worked
+        requires some { 0 < most }
+        requires lent { length (C.bytes memory.old) ≡ self.old.setup.host_bytes }
+        ensures pass { let old = scene self.old (C.bytes memory.old) in
+            IsPass Scope.All (LaneRests old lane) most result old (scene self.new (C.bytes memory.new)) }
+        ensures setup { self.new.setup ≡ self.old.setup }
+        ensures len { length (C.bytes memory.new) ≡ length (C.bytes memory.old) }
+    {
+        let served = self.serve_news(lane, most, memory);
+        if served.ends(most) {
+            return served;
+        }
+        let done = served.done;
+        let planned = self.plan_lane(alloc, lane, TURN.min(most - done), most - done, memory);
+        Worked::after(done, planned)
     }
 
     // A turn of each guest's queues.
@@ -363,6 +374,7 @@ impl HostMediator {
     }
 
     // A turn of a guest's queues. A guest that isn't noted is passed by, and one of whom nothing is due whatever is in memory isn't noted any more.
+    #[inline(always)]
     fn serve_queues<C: MemoryCell>(
         &mut self,
         alloc: Global,
@@ -394,6 +406,7 @@ impl HostMediator {
     }
 
     // The same of a guest that is noted.
+    #[inline(never)]
     fn serve_noted<C: MemoryCell>(
         &mut self,
         alloc: Global,

@@ -7,7 +7,6 @@ use Rattle.nv_entry.specs.declared.status_code.StatusCode.TheVariants.{Success}
 use Rattle.nv_laws_sound.proofs.Moved.{IsNoSubmit, IsPlacing, lane_moved, others-onto, world_moved}
 use Rattle.nv_laws_sound.specs.Mediators.{IsMediators, after_on, on_disk}
 use Rattle.nv_model.specs.Transcript.{Outcome, ReadDone, Settled, Wanted}
-use Rattle.nv_model.specs.declared.act.Act.{Act}
 use Rattle.nv_model.specs.declared.act.Act.TheVariants as act
 use Rattle.nv_model.specs.declared.reply.Reply.TheVariants as reply
 use Rattle.nv_world_model.specs.Device.{DeviceLane}

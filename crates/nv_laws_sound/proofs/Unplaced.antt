@@ -7,7 +7,6 @@ use Rattle.nv_laws_sound.proofs.Moved.{IsNoSubmit, IsPlacing, at-once, group-sam
 use Rattle.nv_laws_sound.specs.Mediators.{IsMediators}
 use Rattle.nv_laws_sound.specs.Unplaced.{after_unplaced, unplaced, unplaced_lane, unplaced_tag}
 use Rattle.nv_model.specs.Transcript.{Outcome, ReadDone, Settled, Wanted}
-use Rattle.nv_model.specs.declared.act.Act.{Act}
 use Rattle.nv_model.specs.declared.act.Act.TheVariants as act
 use Rattle.nv_model.specs.declared.reply.Reply.TheVariants as reply
 use Rattle.nv_world_model.specs.Device.{DeviceLane, rung}

@@ -36,6 +36,15 @@ front-waits c y q some is =
     by_ready true there = by_closing q.closing (is_empty q.head q.tail) (q.base + sqe_size * q.head) there
     by_ready false there = cc
 
+-- by whether the controller is ready
+pub front-ready : (c : Controller) (y : ℕ) → is_ready c ≡ true → front c y ≡ front_of (submission_queue c y)
+unfolding front
+front-ready c y is = ap (λ (b : Bool). if b then front_of (submission_queue c y) else None) is
+
+pub front-unready : (c : Controller) (y : ℕ) → is_ready c ≡ false → front c y ≡ None
+unfolding front
+front-unready c y isnt = ap (λ (b : Bool). if b then front_of (submission_queue c y) else None) isnt
+
 -- and there is such a queue
 pub front-there : (c : Controller) (y : ℕ) → IsSome (front c y) → submission_queue c y ≡ None → ⊥
 unfolding front

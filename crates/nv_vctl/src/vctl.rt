@@ -5,18 +5,19 @@ ghost use Rattle.std.specs.Prelude.{IfSome, IsTrue, drop, if◌then◌else◌, n
 ghost use Rattle.std.specs.List.{list_any};
 ghost use Rattle.nv_model.specs.Admin.{has_io_queue, is_queue_full, uses};
 ghost use Rattle.nv_entry.specs.Status.{StatusField};
-ghost use Rattle.nv_model.specs.Controller.{completion_queue, front, is_enabled, is_ready, opening, pending, post, running, submission_queue};
+ghost use Rattle.nv_model.specs.Controller.{completion_queue, front, front_of, is_enabled, is_ready, opening, pending, post, running, submission_queue};
 ghost use Rattle.nv_mem.specs.GuestMap.{mapped};
 ghost use Rattle.nv_model.specs.Laws.{IsCompletionInPlace, IsSubmissionInPlace, QueuesInPlace};
-ghost use Rattle.nv_model.specs.Limits.{most_requests};
+ghost use Rattle.nv_model.specs.Limits.{last_queue, most_requests};
 ghost use Rattle.nv_model.specs.Queue.{raised};
+ghost use Rattle.nv_vctl.specs.Next.{IsNext};
 ghost use Rattle.nv_vctl.specs.Vctl.{IsWhole, most_taken};
 
 use crate::deletion::Deletion;
 use crate::queues::{CompletionQueue, SubmissionQueue};
 use crate::registers::enables;
 use nv_mem::GuestMap;
-use nv_model::limits::{MOST_REQUESTS, QUEUE_COUNT};
+use nv_model::limits::{LAST_QUEUE, MOST_REQUESTS, QUEUE_COUNT};
 use std::marker::Model;
 
 /// The most taken commands of a queue that are counted.
@@ -182,6 +183,31 @@ impl Vctl {
     {
         match self.submission_queue(usize::from(queue)) {
             Some(found) => self.is_ready() && found.waits(),
+            None => false,
+        }
+    }
+
+    /// The first I/O queue, from number `from` on, of which a command may be taken ([`Vctl::waits`]); 9 where it is none.
+    pub fn next_waiting(&self, from: u16) -> u16
+        ensures { IsNext (λ queue. is_some (front self.now queue)) from (last_queue + 1) result }
+    {
+        if !self.is_ready() {
+            return LAST_QUEUE + 1;
+        }
+        for queue in from..LAST_QUEUE + 1 {
+            if self.holds_command(queue) {
+                return queue;
+            }
+        }
+        LAST_QUEUE + 1
+    }
+
+    // Whether the submission queue of that number is there, does not close and has a command that waits.
+    fn holds_command(&self, queue: u16) -> bool
+        ensures { result ≡ is_some (front_of (submission_queue self.now queue)) }
+    {
+        match self.submission_queue(usize::from(queue)) {
+            Some(found) => found.waits(),
             None => false,
         }
     }

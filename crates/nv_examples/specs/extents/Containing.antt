@@ -1,11 +1,10 @@
 -- Events of the first guest, and steps that are wrong in one thing alone, of blocks that are not in its first extent
-use Rattle.std.specs.Prelude.{ℕ, ◌==◌, true, false, if◌then◌else◌, List, [], ◌∷◌, replicate, Some, None}
+use Rattle.std.specs.Prelude.{ℕ, ◌==◌, true, if◌then◌else◌, [], ◌∷◌, replicate, Some, None}
 use Rattle.nv_model.specs.Controller.{Controller, opening}
 use Rattle.nv_model.specs.Memory.{stored}
 use Rattle.nv_model.specs.Queue.{new_completion, new_submission}
 use Rattle.nv_model.specs.declared.act.Act.TheVariants as act
 use Rattle.nv_model.specs.declared.reply.Reply.TheVariants as reply
-use Rattle.nv_world_model.specs.declared.event.Event.{Event}
 use Rattle.nv_world_model.specs.declared.event.Event.TheVariants as event
 use Rattle.nv_world_model.specs.Contained.{IsContained}
 use Rattle.nv_world_model.specs.Rows.{numbered}

@@ -6,7 +6,6 @@ use Rattle.std.specs.List.{list_any}
 use Rattle.std.proofs.lemmas.List.{length-replicate}
 use Rattle.nv_entry.specs.Status.{StatusField}
 use Rattle.nv_entry.specs.Completion.{status_of}
-use Rattle.nv_mem.specs.GuestMap.{host_of}
 use Rattle.nv_mem.specs.Places.{places_of}
 use Rattle.nv_model.proofs.Endings.{and-true}
 use Rattle.nv_model.specs.Controller.{opening}

@@ -20,7 +20,8 @@ either-none : (b : Bool) → ◌≡◌ {A = List Step} (cond b [] []) []
 either-none true = refl
 either-none false = refl
 
-not-telling : (r : Reply) → is_telling r ≡ false → is_done r ≡ false
+-- a reply that says nothing says of nothing that it is done
+pub not-telling : (r : Reply) → is_telling r ≡ false → is_done r ≡ false
 not-telling reply.Done dull = dull
 not-telling (reply.Bytes bytes) dull = refl
 not-telling reply.Idle dull = refl

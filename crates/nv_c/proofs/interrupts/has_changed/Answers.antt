@@ -1,4 +1,4 @@
-use Rattle.std.proofs.Common.{◌≡◌, ◌∙◌, ℕ, length, map, rules, arith, sym}
+use Rattle.std.proofs.Common.{◌≡◌, ◌∙◌, length, rules, arith, sym}
 use lib.Pointwise.{bytes_decides}
 use Rattle.nv_c.proofs.Seen.{mapped-to}
 use Rattle.nv_c.specs.Serving.{vector_kept}

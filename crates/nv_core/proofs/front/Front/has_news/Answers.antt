@@ -1,13 +1,8 @@
-use Rattle.std.proofs.Common.{◌≡◌, ◌∙◌, ◌∷◌, ◌||◌, ℕ, List, [], Bool, Option, None, Some, MatchOption, true, false, is_some, length, nat_lt, slice_get, arith, ap, sym}
-use Rattle.std.proofs.lemmas.Bool.{lt-ltb}
+use Rattle.std.proofs.Common.{◌≡◌, ◌∙◌, ◌||◌, ℕ, List, Bool, true, false, length, nat_lt, slice_get, ap, sym}
+use Rattle.nv_core.proofs.MarkedLanes.{found}
 use Rattle.nv_core.specs.Reaping.{waits_in}
 use Rattle.nv_core.specs.Tags.{ended_in}
 use Rattle.nv_core.proofs.front.Front.has_news.Goals as goal
-
--- whether there was a first
-found : (o : Option ℕ) (all left : List ℕ) → MatchOption o (all ≡ []) (λ t. all ≡ t ∷ left) → nat_lt 0 (length all) ≡ is_some o
-found None all left none = ap (λ (xs : List ℕ). nat_lt 0 (length xs)) none
-found (Some t) all left some = ap (λ (xs : List ℕ). nat_lt 0 (length xs)) some ∙ lt-ltb 0 (length (t ∷ left)) (omega arith)
 
 pub returns-then-is_some : goal.returns-then-is_some
 returns-then-is_some g c =

@@ -1,48 +1,60 @@
-use Rattle.std.proofs.Common.{◌≡◌, ◌∙◌, ◌-◌, ℕ, arith, refl}
-use Rattle.nv_host.proofs.Works.{ended-all}
-use Rattle.nv_host.proofs.Rounds.{after-fits, round-end, round-full, round-none, round-on, round-stop}
-use Rattle.nv_host.specs.Work.{Rests, Scene, scene}
+use Rattle.std.proofs.Common.{◌≡◌, ◌∙◌, ◌+◌, ◌-◌, ℕ, arith, ap, refl}
+use Rattle.nv_host.proofs.Rounds.{after-fits, round-end, round-full, round-none, round-on, round-skip, round-stop}
+use Rattle.nv_host.specs.Passes.{LaneRests}
+use Rattle.nv_host.specs.Work.{Scene, scene}
 use Rattle.nv_host.specs.declared.worked.Scope.TheVariants as scope
 use Rattle.nv_host.specs.declared.worked.Worked.{Worked}
+use Rattle.nv_world_model.specs.SetUp.{SetUp}
 use Rattle.nv_host.proofs.host_mediator.HostMediator.serve_lanes.Goals as goal
 
 pub loop-lane-init : goal.loop-lane-init
 loop-lane-init g c =
     let a : Scene = scene c.args.self.now (g.C.MemoryCell.bytes c.args.memory.now) in
-    record { round = round-none scope.All c.args.most (λ (s : Scene) (k : ℕ). Rests (scope.Lane k) s) a; setup = refl; len = refl }
+    record {
+      round = round-skip scope.All c.args.most 0 0 (λ (s : Scene) (k : ℕ). LaneRests s k) a a (round-none scope.All c.args.most (λ (s : Scene) (k : ℕ). LaneRests s k) a) c.next_busy-lane.result
+          (λ k from below. c.next_busy-lane.ensures.passed k from below);
+      setup = refl;
+      len = refl;
+    }
 
 pub after-whole-requires : goal.after-whole-requires
 after-whole-requires g c =
     let a : Scene = scene c.args.self.now (g.C.MemoryCell.bytes c.args.memory.now) in
     let b : Scene = scene c.loop-lane.self (g.C.MemoryCell.bytes c.loop-lane.memory) in
-    let n : Scene = scene c.serve_lane-pass.new.self (g.C.MemoryCell.bytes c.serve_lane-pass.new.memory) in
-    let w : Worked = c.serve_lane-pass.result in
-    after-fits scope.All c.args.most c.loop-lane.done (w.done ≡ 0 → ((λ (s : Scene) (k : ℕ). Rests (scope.Lane k) s)) b c.loop-lane.lane) w b n (ended-all (scope.Lane c.loop-lane.lane) (c.args.most - c.loop-lane.done) w.done (w.done ≡ 0 → ((λ (s : Scene) (k : ℕ). Rests (scope.Lane k) s)) b c.loop-lane.lane) w.why b n c.serve_lane-pass.ensures.pass) c.loop-lane.invariant.round.few c.ranges.most.fits
+    let n : Scene = scene c.serve_busy-pass.new.self (g.C.MemoryCell.bytes c.serve_busy-pass.new.memory) in
+    let w : Worked = c.serve_busy-pass.result in
+    after-fits scope.All c.args.most c.loop-lane.done (w.done ≡ 0 → (λ (s : Scene) (k : ℕ). LaneRests s k) b c.loop-lane.lane) w b n
+    c.serve_busy-pass.ensures.pass c.loop-lane.invariant.round.few c.ranges.most.fits
 
 pub returns-then-done-most-clause-pass : goal.returns-then-done-most-clause-pass
 returns-then-done-most-clause-pass g c =
     let a : Scene = scene c.args.self.now (g.C.MemoryCell.bytes c.args.memory.now) in
     let b : Scene = scene c.loop-lane.self (g.C.MemoryCell.bytes c.loop-lane.memory) in
-    round-full scope.All c.args.most c.loop-lane.done c.loop-lane.lane (λ (s : Scene) (k : ℕ). Rests (scope.Lane k) s) a b c.loop-lane.invariant.round _ c.args.most c.so_far.result c.so_far.ensures c.if-done-most.true c.requires.some
+    round-full scope.All c.args.most c.loop-lane.done c.loop-lane.lane (λ (s : Scene) (k : ℕ). LaneRests s k) a b c.loop-lane.invariant.round _ c.args.most
+    c.so_far.result c.so_far.ensures c.if-done-most.true c.requires.some
 
 pub returns-then-stopped-clause-pass : goal.returns-then-stopped-clause-pass
 returns-then-stopped-clause-pass g c =
     let a : Scene = scene c.args.self.now (g.C.MemoryCell.bytes c.args.memory.now) in
     let b : Scene = scene c.loop-lane.self (g.C.MemoryCell.bytes c.loop-lane.memory) in
-    let n : Scene = scene c.serve_lane-pass.new.self (g.C.MemoryCell.bytes c.serve_lane-pass.new.memory) in
-    let w : Worked = c.serve_lane-pass.result in
-    round-stop scope.All c.args.most c.loop-lane.done c.loop-lane.lane (λ (s : Scene) (k : ℕ). Rests (scope.Lane k) s) a b n c.loop-lane.invariant.round _ w c.after-whole.result c.after-whole.ensures (ended-all (scope.Lane c.loop-lane.lane) (c.args.most - c.loop-lane.done) w.done (w.done ≡ 0 → ((λ (s : Scene) (k : ℕ). Rests (scope.Lane k) s)) b c.loop-lane.lane) w.why b n c.serve_lane-pass.ensures.pass) (c.has_stopped-stopped.ensures.yes c.if-stopped.true)
+    let n : Scene = scene c.serve_busy-pass.new.self (g.C.MemoryCell.bytes c.serve_busy-pass.new.memory) in
+    let w : Worked = c.serve_busy-pass.result in
+    round-stop scope.All c.args.most c.loop-lane.done c.loop-lane.lane (λ (s : Scene) (k : ℕ). LaneRests s k) a b n c.loop-lane.invariant.round _ w c.after-whole.result
+    c.after-whole.ensures c.serve_busy-pass.ensures.pass (c.has_stopped-stopped.ensures.yes c.if-stopped.true)
 
 pub loop-lane-preserved : goal.loop-lane-preserved
 loop-lane-preserved g c =
     let a : Scene = scene c.args.self.now (g.C.MemoryCell.bytes c.args.memory.now) in
     let b : Scene = scene c.loop-lane.self (g.C.MemoryCell.bytes c.loop-lane.memory) in
-    let n : Scene = scene c.serve_lane-pass.new.self (g.C.MemoryCell.bytes c.serve_lane-pass.new.memory) in
-    let w : Worked = c.serve_lane-pass.result in
+    let n : Scene = scene c.serve_busy-pass.new.self (g.C.MemoryCell.bytes c.serve_busy-pass.new.memory) in
+    let w : Worked = c.serve_busy-pass.result in
     record {
-      round = round-on scope.All c.args.most c.loop-lane.done c.loop-lane.lane (λ (s : Scene) (k : ℕ). Rests (scope.Lane k) s) a b n c.loop-lane.invariant.round w c.after-whole.result c.after-whole.ensures (ended-all (scope.Lane c.loop-lane.lane) (c.args.most - c.loop-lane.done) w.done (w.done ≡ 0 → ((λ (s : Scene) (k : ℕ). Rests (scope.Lane k) s)) b c.loop-lane.lane) w.why b n c.serve_lane-pass.ensures.pass) (c.has_stopped-stopped.ensures.no c.if-stopped.false);
-      setup = c.serve_lane-pass.ensures.setup ∙ c.loop-lane.invariant.setup;
-      len = c.serve_lane-pass.ensures.len ∙ c.loop-lane.invariant.len;
+      round = round-skip scope.All c.args.most c.after-whole.result.done (c.loop-lane.lane + 1) (λ (s : Scene) (k : ℕ). LaneRests s k) a n
+          (round-on scope.All c.args.most c.loop-lane.done c.loop-lane.lane (λ (s : Scene) (k : ℕ). LaneRests s k) a b n c.loop-lane.invariant.round w c.after-whole.result c.after-whole.ensures
+          c.serve_busy-pass.ensures.pass (c.has_stopped-stopped.ensures.no c.if-stopped.false)) c.next_busy-lane-in-loop-lane.result
+          (λ k from below. c.next_busy-lane-in-loop-lane.ensures.passed k from below);
+      setup = c.serve_busy-pass.ensures.setup ∙ c.loop-lane.invariant.setup;
+      len = c.serve_busy-pass.ensures.len ∙ c.loop-lane.invariant.len;
     }
 
 pub returns-clause-pass : goal.returns-clause-pass
@@ -50,5 +62,7 @@ returns-clause-pass g c =
     let a : Scene = scene c.args.self.now (g.C.MemoryCell.bytes c.args.memory.now) in
     let b : Scene = scene c.loop-lane.self (g.C.MemoryCell.bytes c.loop-lane.memory) in
     let end = c.loop-lane-test.false in
-    round-end scope.All c.args.most c.loop-lane.done c.loop-lane.lane (λ (s : Scene) (k : ℕ). Rests (scope.Lane k) s) a b c.loop-lane.invariant.round _ c.so_far-2.result c.so_far-2.ensures
-    (λ below k less. below k (let many = c.lanes-lane-end.ensures in omega (arith, less, end, many)))
+    let many = c.lanes.ensures in
+    let same = ap (λ (x : SetUp). x.lanes) c.loop-lane.invariant.setup in
+    round-end scope.All c.args.most c.loop-lane.done c.loop-lane.lane (λ (s : Scene) (k : ℕ). LaneRests s k) a b c.loop-lane.invariant.round _ c.so_far-2.result c.so_far-2.ensures
+    (λ below k less. below k (omega (arith, less, end, many, same)))

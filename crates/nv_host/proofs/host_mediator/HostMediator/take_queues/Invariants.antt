@@ -1,4 +1,4 @@
-use Rattle.std.proofs.Common.{◌≡◌, ℕ, length}
+use Rattle.std.proofs.Common.{◌≡◌, ◌-◌, ◌≤◌, ℕ, length}
 use Rattle.nv_host.proofs.Rounds.{IsRound}
 use Rattle.nv_world_model.specs.declared.event.Event.TheVariants as event
 use Rattle.nv_host.specs.Work.{NotDue, Scene, scene}
@@ -12,4 +12,8 @@ invariant-loop-queue g l =
           (scene l.fn.self (g.C.MemoryCell.bytes l.fn.memory)) (scene l.self (g.C.MemoryCell.bytes l.memory));
       setup : l.self.setup ≡ l.fn.self.setup;
       len : length (g.C.MemoryCell.bytes l.memory) ≡ length (g.C.MemoryCell.bytes l.fn.memory);
+      within : l.queue ≤ 9;
     }
+
+abbrev pub decreases-loop-queue : goal.decreases-loop-queue
+decreases-loop-queue g l = 9 - l.queue
