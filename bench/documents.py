@@ -45,8 +45,8 @@ END = "<!-- as far as here -->"
 DEFINITIONS = "docs/DEFINITIONS.md"
 # statuses that no check gives
 GIVEN_BY_THE_DRIVE = {"UnrecoveredReadError"}
-# the crate all of whose definitions are logs
-LOGS = {"nv_examples"}
+# the crates all of whose definitions are worked examples
+LOGS = {"nv_examples", "nv_examples_host"}
 # names of the toolchain's that documents speak of
 FOREIGN = {"as_flattened_mut"}
 
