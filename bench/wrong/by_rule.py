@@ -319,7 +319,9 @@ def main():
     known = kinds.Kinds(computing.modules())
     rows = ready_rows(words.seconds)
     files = believed.read()
-    rested_on = sorted(believed.rests_on(files, [(file, name) for file, names in believed.WORLD for name in names]))
+    # of a file that is named all definitions are asked about, also those that the world does not rest on
+    named = [(file, list(files[file].lines)) for file in words.names if file in files]
+    rested_on = sorted(believed.rests_on(files, [(file, name) for file, names in [*believed.WORLD, *named] for name in names]))
     by_file = {module.path: module for module in computing.modules()}
     sums, asked = {}, 0
     for at, (file, name) in enumerate(rested_on):

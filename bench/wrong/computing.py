@@ -127,6 +127,7 @@ LIBRARY = {
     "max": (2, max),
     "length": (1, len),
     "sum": (1, sum),
+    "count_by": (2, lambda f, xs: sum(1 for x in xs if applied(f, x))),
     "sum_by": (2, lambda f, xs: sum(applied(f, x) for x in xs)),
     "map": (2, lambda f, xs: tuple(applied(f, x) for x in xs)),
     "flat_map": (2, lambda f, xs: tuple(y for x in xs for y in applied(f, x))),

@@ -370,6 +370,7 @@ def files_of_rows():
         ("nv_model", "src/rows/**/*.rt"),
         ("nv_world_model", "src/rows/**/*.rt"),
         ("nv_examples", "src/**/*.rt"),
+        ("nv_examples_host", "src/**/*.rt"),
     ):
         for file in sorted(glob.glob(os.path.join(ROOT, "crates", crate, pattern), recursive=True)):
             yield crate, file

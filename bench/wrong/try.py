@@ -1,6 +1,7 @@
 #!/usr/bin/env python3
 """try.py LIST [NAME..]: tries wrong definitions or bugs, one by one, in the repository that this file stands in, which it changes
-and puts back; so run it in a clone. LIST is LISTS, WORLD, MORE_LISTS or MORE_WORLD (definitions.py), ONCE, WORKERS, PRINT, RUN_SCRIPT,
+and puts back; so run it in a clone. LIST is LISTS, WORLD, MORE_LISTS, MORE_WORLD, FRONT_WORDS or
+FRONT_STATEMENTS (definitions.py), ONCE, WORKERS, PRINT, RUN_SCRIPT,
 ONCE_SCRIPT_MORE or REPLAY_SCRIPT (bugs.py; at_once.py asks the proofs alone, and of a whole list in one check).
 
 A definition is tried against the computed examples, lowest crate first; a bug against the proofs of its crate and, where these let it
@@ -17,12 +18,15 @@ import definitions
 ROOT = os.path.dirname(os.path.dirname(os.path.dirname(os.path.abspath(__file__))))
 EXAMPLES = [("nv_model", ["--only", "rows"]), ("nv_world_model", ["--only", "rows"]), ("nv_examples", [])]
 ALL = [(crate, ["check", *only]) for crate, only in EXAMPLES]
+HOST = [("nv_examples_host", ["check"])]
 # each list, and the commands that it goes through: a crate with the words for rt
 TRIALS = {
     "LISTS": (definitions.LISTS, ALL),
     "WORLD": (definitions.WORLD, ALL[1:]),
     "MORE_LISTS": (definitions.MORE_LISTS, ALL),
     "MORE_WORLD": (definitions.MORE_WORLD, ALL[1:]),
+    "FRONT_WORDS": (definitions.FRONT_WORDS, HOST),
+    "FRONT_STATEMENTS": (definitions.FRONT_STATEMENTS, HOST),
     "ONCE": (bugs.ONCE, [("nv_commands", ["check"]), ("nv_checks_program", ["try", "--test"])]),
     "WORKERS": (bugs.WORKERS, [("nv_threads", ["check"]), ("nv_checks_program", ["try", "--test"])]),
     "PRINT": (bugs.PRINT, [("nv_print", ["check"]), ("nv_checks_program", ["try", "--test"])]),
