@@ -9,7 +9,7 @@ ghost use Rattle.nv_host.specs.Closing.{AreDone, AreEach, AreReaped, IsDrained, 
 ghost use Rattle.nv_host.specs.Served.{LeadsTo, Served};
 ghost use Rattle.nv_world_model.specs.Geometry.{Geometry};
 ghost use Rattle.nv_world_model.specs.Rows.{controller_with};
-ghost use Rattle.nv_world_model.specs.World.{InDevice, Taken, World};
+ghost use Rattle.nv_world_model.specs.World.{InDevice, Taken, World, opening_lane};
 ghost use Rattle.nv_world_model.specs.declared.event.Event.TheVariants as event;
 ghost use Rattle.nv_world_model.specs.declared.logged.Logged.{Logged};
 
@@ -35,7 +35,8 @@ pub fn endings()
 #[tactic(none)]
 pub fn tags()
     ensures as_before { AreEach over 0 (side []) (side []) → ⊥ }
-    // All but the last tag have changed.
+    ensures all_free { AreEach over 0 (side []) (record (side []) { lanes = opening_lane ∷ opening_lane ∷ [] }) → ⊥ }
+    // All but one tag have changed.
     ensures all_but_one { AreEach over 0 (side []) closed_but_one → ⊥ }
     ensures one_in_flight { AreDone 0 (one_tag (flying 0 1 0 InDevice)) → ⊥ }
     ensures one_that_waits { AreDone 0 (one_tag (Taken (command_of 0 1 0) [])) → ⊥ }

@@ -1,13 +1,17 @@
 use Rattle.std.proofs.Common.{Bool, List, Option, ap, arith, false, is_some, length, refl, true, ℕ, ◌≡◌}
 use Rattle.std.specs.Prelude.{slice_index}
 use Rattle.nv_core.specs.Held.{held_in}
-use Rattle.nv_core.specs.Tags.{is_flying}
+use Rattle.nv_core.specs.Tags.{command_at, is_flying}
 use Rattle.nv_model.specs.Controller.{Controller}
 use Rattle.nv_plan.specs.declared.job.Job.{Job}
+use Rattle.nv_world_model.specs.World.{Tag}
 use Rattle.nv_examples_host.proofs.closes.tags.Goals as goal
 
 pub returns-clause-as_before : goal.returns-clause-as_before
 returns-clause-as_before c a = (let bad : ◌≡◌ {A = Bool} true false = ap is_flying (a 1) in absurd (cc))
+
+pub returns-clause-all_free : goal.returns-clause-all_free
+returns-clause-all_free c a = (let bad : ◌≡◌ {A = Bool} false true = ap (λ (o : Option Tag). is_some (command_at o)) (a 1) in absurd (cc))
 
 pub returns-clause-all_but_one : goal.returns-clause-all_but_one
 returns-clause-all_but_one c a = (let bad : ◌≡◌ {A = Bool} true false = ap is_flying (a 7) in absurd (cc))
