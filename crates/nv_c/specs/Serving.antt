@@ -6,8 +6,8 @@ use Rattle.nv_c.specs.declared.event.Event as c
 use Rattle.nv_c.specs.declared.rings.Rings.{Rings}
 use Rattle.nv_c.specs.declared.working.Scope.{Scope}
 use Rattle.nv_c.specs.declared.working.Scope.TheVariants as scope
-use Rattle.nv_core.specs.Front.{IsBeside}
-use Rattle.nv_core.specs.Reaping.{waits_in}
+use Rattle.nv_core.specs.Front.{IsBeside, IsReaped}
+use Rattle.nv_core.specs.Reaping.{answer_of, waits_in}
 use Rattle.nv_core.specs.Seat.{bytes_told}
 use Rattle.nv_host.specs.Closing.{AreDone, IsEndedBy, IsLaneAlone, IsOver, IsRingAlone}
 use Rattle.nv_host.specs.Served.{IsDone, IsNext, IsUnreached, LeadsTo, Served, is_closed, is_offered, is_reap, is_served}
@@ -41,12 +41,25 @@ IsServed e before after old status new = (r : Reply) × (status ≡ status_of r)
 abbrev pub IsNotDone : (why : ℕ) → (before after : List ℕ) → (old : Served) → (status : ℕ) → (new : Served) → Type 0
 IsNotDone why before after old status new = (status ≡ why) × (new ≡ old) × (after ≡ before)
 
+-- what is known of an event that was made, whatever is in memory: of a Reap, that the next completion of the lane is answered so, and that it was read
+-- where it was new
+abbrev pub IsAnswered : Event → (before after : List ℕ) → (old : Served) → Reply → (new : Served) → Type 0
+IsAnswered (event.Reap lane) before after old r new =
+    (answer_of old.setup.geometry lane (slice_get old.side.lanes lane) before ≡ Some r)
+    × (r ≡ reply.Done → IsReaped old.setup.geometry lane old.side new.side before) × ((r ≡ reply.Done → ⊥) → new ≡ old)
+IsAnswered e before after old r new = IsDone e old before r new after
+
+-- the next completion of a lane names no command
+abbrev pub HasStray : Event → (before : List ℕ) → (old : Served) → Type 0
+HasStray (event.Reap lane) before old = answer_of old.setup.geometry lane (slice_get old.side.lanes lane) before ≡ None
+HasStray e before old = ⊥
+
 -- what an event that is no guest's act comes to. A Reap of a completion that names no command is answered so; then no log leads there. So is a Take for
 -- a lane that was closed, an event of the drive's, and one for which there was no memory
 abbrev pub IsStepped : Event → (before after : List ℕ) → (old : Served) → (status : ℕ) → (new : Served) → Type 0
 IsStepped e before after old status new =
-    ((r : Reply) × (status ≡ status_of r) × IsNext e old before r new after × (is_reap e ≡ false → IsDone e old before r new after))
-    ⊎ IsTrue (is_reap e) × IsUnreached old before × IsNotDone stray before after old status new
+    ((r : Reply) × (status ≡ status_of r) × IsNext e old before r new after × IsAnswered e before after old r new)
+    ⊎ HasStray e before old × IsUnreached old before × IsNotDone stray before after old status new
     ⊎ (is_offered old e ≡ false) × IsTrue (is_served e) × IsNotDone closed before after old status new
     ⊎ (is_served e ≡ false) × IsNotDone no_such before after old status new
     ⊎ IsTrue (may_want e) × IsTrue (is_served e) × IsNotDone no_memory before after old status new

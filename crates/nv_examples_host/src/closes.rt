@@ -51,6 +51,8 @@ pub fn tags()
 pub fn reads()
     ensures none_read { AreReaped low 0 two_slots 0 (side []) (side []) }
     ensures none_read_and_changed { AreReaped low 0 two_slots 0 (side []) (with_tails 6 7) → ⊥ }
+    // An old completion isn't read.
+    ensures an_old_one { (new : Side) → AreReaped low 0 two_slots 1 (one_lane (reading 0 true)) new → ⊥ }
     // The completion in the first slot was read: the next slot comes then, and tag 1 has ended.
     ensures a_head_as_before { IsReaped low 0 (one_lane (reading 0 true)) (one_lane (reading 0 true)) two_slots → ⊥ }
     ensures a_tag_as_before { IsReaped low 0 (one_lane (reading 0 true)) (one_lane (reading 1 true)) two_slots → ⊥ }

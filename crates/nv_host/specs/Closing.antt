@@ -69,10 +69,13 @@ pub record IsLaneAlone (lane : ℕ) (old new : Side) : Type 0 where
 
 -- ---- completions that are there
 
--- so many completions of a lane were read, one after the other, whatever the physical controller has posted
+-- so many completions of a lane were read, one after the other: each was new and named a command that was in flight, whatever else is in memory
 abbrev pub AreReaped : Geometry → (lane : ℕ) → (memory : List ℕ) → (count : ℕ) → (old new : Side) → Type 0
 AreReaped geometry lane memory zero old new = new ≡ old
-AreReaped geometry lane memory (suc count) old new = (mid : Side) × (AreReaped geometry lane memory count old mid × IsReaped geometry lane mid new memory)
+AreReaped geometry lane memory (suc count) old new =
+    (mid : Side)
+    × (AreReaped geometry lane memory count old mid × (answer_of geometry lane (slice_get mid.lanes lane) memory ≡ Some reply.Done)
+    × IsReaped geometry lane mid new memory)
 
 -- all that are there, up to one that names no command
 pub record IsDrained (geometry : Geometry) (lane : ℕ) (memory : List ℕ) (old new : Side) : Type 0 where

@@ -1,8 +1,10 @@
-use Rattle.std.proofs.Common.{◌∙◌, refl, suc, subst}
+use Rattle.std.proofs.Common.{◌≡◌, ◌∙◌, Some, refl, slice_get, suc, subst}
 use Rattle.nv_core.specs.Front.{IsReaped}
+use Rattle.nv_core.specs.Reaping.{answer_of}
 use Rattle.nv_host.proofs.Failed.{alone-same, alone-twice, reap-fewer}
 use Rattle.nv_host.proofs.Runs.{lead-same, run-twice}
 use Rattle.nv_host.specs.Ending.{IsRun}
+use Rattle.nv_model.specs.declared.reply.Reply.TheVariants as reply
 use Rattle.nv_world_model.specs.SetUp.{SetUp}
 use Rattle.nv_host.proofs.host_mediator.HostMediator.drain.Goals as goal
 
@@ -33,6 +35,8 @@ loop-preserved g c =
           c.loop.self.side,
           (
             so_far.reads.1,
+            subst (λ (s : SetUp). answer_of s.geometry c.args.lane (slice_get c.loop.self.side.lanes c.args.lane) (g.C.MemoryCell.bytes c.args.memory.now) ≡ Some reply.Done)
+                so_far.setup (c.has_reaped.ensures.answer.0 c.loop-test.true),
             subst (λ (s : SetUp). IsReaped s.geometry c.args.lane c.loop.self.side c.has_reaped.new.self.side (g.C.MemoryCell.bytes c.args.memory.now)) so_far.setup
                 (c.has_reaped.ensures.done c.loop-test.true),
           ),
