@@ -842,4 +842,5 @@ FRONT_STATEMENTS = [
     ("s74", "nv_host", "specs/InRow.antt", "  pub last : gives_up before new\n", "  pub last : gives_up before before\n"),
     ("s75", "nv_core", "specs/Front.antt", "    → with_side new memory w ≡ reaped lane (completion_at geometry w lane l.head) w\n", "    → with_side new memory w ≡ with_side old memory w\n"),
     ("s76", "nv_core", "specs/Front.antt", "    → with_side new memory w ≡ reaped lane (completion_at geometry w lane l.head) w\n", "    → (with_side new memory w).controllers ≡ w.controllers\n"),
+    ("s77", "nv_host", "specs/Closing.antt", "(AreReaped geometry lane memory count old mid × (answer_of geometry lane (slice_get mid.lanes lane) memory ≡ Some reply.Done)\n", "(AreReaped geometry lane memory count old mid\n"),
 ]
