@@ -1,10 +1,30 @@
-# Random reads and writes, a line for each kind: its name, and how many a second. The queue is polled, since interrupts don't come in the same way from
-# both drives.
+# Random reads and writes on both drives of the guest, by turns: a line for each turn, with whose drive it was, the name of the job, and how many a second. The
+# queues are polled, since interrupts don't come in the same way from both drives.
 set -e
-while read -r name rw size depth; do
-    fio --name="$name" --filename=/dev/nvme0n1 --direct=1 --rw="$rw" --bs="$size" --iodepth="$depth" --size=24m --ioengine=io_uring --hipri \
-        --time_based --runtime=5 --ramp_time=1 --output-format=terse > /tmp/fio || { cat /tmp/fio; false; }
-    echo "speed $name $(awk -F ';' '$1 == 3 { print $8 + $49 }' /tmp/fio)"
+for _ in 1 2 3 4 5 6 7 8 9 10; do
+    [ ! -b /dev/nvme1n1 ] || break
+    sleep 1
+done
+for name in nvme0n1 nvme1n1; do
+    case $(cat "/sys/block/$name/device/serial") in
+        own*) own=/dev/$name ;;
+        *) shared=/dev/$name ;;
+    esac
+done
+turn() {
+    fio --name="$3" --filename="$2" --direct=1 --rw="$4" --bs="$5" --iodepth="$6" --size=24m --ioengine=io_uring --hipri --time_based --runtime=2 \
+        --ramp_time=1 --output-format=terse > /tmp/fio || { cat /tmp/fio; false; }
+    echo "speed $1 $3 $(awk -F ';' '$1 == 3 { print $8 + $49 }' /tmp/fio)"
+}
+while read -r job; do
+    for order in program,QEMU QEMU,program program,QEMU QEMU,program program,QEMU; do
+        for whose in $(echo "$order" | tr , ' '); do
+            case $whose in
+                program) turn program "$shared" $job ;;
+                *) turn QEMU "$own" $job ;;
+            esac
+        done
+    done
 done << END
 read-1 randread 4k 1
 read-16 randread 4k 16
