@@ -12,10 +12,10 @@
 #include "guest.h"
 #include "layout.h"
 #include "mediation.h"
+#include "pause.h"
 
-enum { ENDED = 0, FAILED = 1, USAGE = 2, DRIVE_FAILED = 3, POLLS = 3 * CONFIG_GUESTS, TICK = 1000 /* milliseconds */ };
+enum { ENDED = 0, FAILED = 1, USAGE = 2, DRIVE_FAILED = 3, POLLS = 3 * CONFIG_GUESTS, TICK = PAUSE_TICK / 1000 /* milliseconds */ };
 enum { LINES = 8 /* on a guest, in a second */ };
-enum { SPIN = 100 /* microseconds after the last event without a pause */, NAP = 50 /* and the pauses after that, where the drive has commands */ };
 
 typedef struct host {
     config config;
@@ -63,9 +63,16 @@ static void say(guest *g, const char *text) {
     if (g->said++ < LINES) fprintf(stderr, "nvmed-host: guest %u: %s\n", (unsigned)g->number, text);
 }
 
+/* Says how a guest's QEMU has ended, once it has. */
+static void note_end(guest *g) {
+    reason r;
+    if (g->process.pid >= 0 && peer_ended(&g->process, &r)) say(g, r.text);
+}
+
 static void begin_second(host *h) {
     for (unsigned i = 0; i < h->guests; i++) {
         guest *g = &h->guest[i];
+        note_end(g);
         if (g->said > LINES) fprintf(stderr, "nvmed-host: guest %u: %u lines like these more\n", i, g->said - LINES);
         g->said = 0;
     }
@@ -149,22 +156,20 @@ static void tell(host *h) {
     }
 }
 
+/* A QEMU's connection ends with its process: those that have one are looked at once a second alone. */
 static bool is_any_left(host *h) {
-    reason r;
     bool any = false;
     for (unsigned i = 0; i < h->guests; i++) {
         guest *g = &h->guest[i];
-        if (g->process.pid >= 0 && peer_ended(&g->process, &r)) say(g, r.text);
+        if (!g->connected) note_end(g);
         any |= !g->over;
     }
     return any;
 }
 
-/* How long guests may be waited for: not at all where more is due, nor right after an event, since a guest often writes its next doorbell at once, and who
- * waits wakes late. A drive that has commands is polled again soon: its completions lie in memory, and nothing says that they came. */
 static struct timespec longest_pause(const mediation *m) {
-    if (m->due || clock_microseconds() - m->moved < SPIN) return (struct timespec){0, 0};
-    return mediation_is_idle(m) ? (struct timespec){TICK / 1000, 0} : (struct timespec){0, NAP * 1000};
+    uint64_t microseconds = pause_longest(m->due, mediation_is_polled(m), clock_microseconds() - m->moved);
+    return (struct timespec){(time_t)(microseconds / 1000000), (long)(microseconds % 1000000) * 1000};
 }
 
 /* Until a signal comes, no guest is left, or the drive has failed and the guests were answered. The status of the program. */

@@ -159,10 +159,10 @@ bool mediation_check(mediation *m, reason *r) {
     return true;
 }
 
-bool mediation_is_idle(const mediation *m) {
+bool mediation_is_polled(const mediation *m) {
     unsigned flying = 0;
     for (unsigned i = 0; i < m->lanes; i++) flying += m->lane[i].flying;
-    return flying == 0 && !m->due;
+    return flying != 0;
 }
 
 void mediation_reset(mediation *m, uint32_t guest) { nvmed_reg_write(&m->mediator, guest, CC, 0); }

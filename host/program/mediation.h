@@ -42,8 +42,10 @@ bool mediation_work(mediation *m, reason *r);
 /* Looks at the drive itself: whether it still works, and has answered in time. As mediation_work. */
 bool mediation_check(mediation *m, reason *r);
 
-/* Whether nothing is due and the drive has no command, and the same with no command of the guest. */
-bool mediation_is_idle(const mediation *m);
+/* Whether the drive has commands: then it is to be polled. */
+bool mediation_is_polled(const mediation *m);
+
+/* Whether nothing is due, and the drive has no command of the guest. */
 bool mediation_is_idle_of(const mediation *m, uint32_t guest);
 
 /* Ends a guest's controller as a reset does: its queues are gone, and its commands run out. */
