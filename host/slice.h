@@ -4,9 +4,9 @@
 
 enum { SLICE_SHORT = 100000 /* nanoseconds, the least that Linux takes */ };
 
-/* Asks for short slices for the calling thread, and for the threads and processes that it starts later. Who often works for some microseconds and then waits
- * again gets no more of the processor by that, but sooner where others want it, too. Its policy and its niceness stay. Nothing happens where the policy is
- * not the usual one, nor by a kernel before 6.12. */
+/* Asks for short slices for the calling thread, and for those that it starts later. A thread that works for some microseconds and then waits again loses
+ * nothing by that: it gets no more of the processor in all, but sooner where others want it, too. Its policy and its niceness stay. Nothing happens where
+ * the policy is not the usual one, nor by a kernel before 6.12. */
 void slice_shorten(void);
 
 #endif

@@ -101,7 +101,6 @@ static bool begin(host *h, bool counting, reason *r) {
     if (counting) h->mediation.counts = &h->counts;
     drive_describe(h->mediation.disk, text, sizeof text);
     fprintf(stderr, "nvmed-host: the drive: %s\n", text);
-    slice_shorten(); /* also of the QEMUs that are started: their processors sleep at each access until it is answered */
     for (unsigned i = 0; i < h->guests; i++)
         if (!guest_start(&h->guest[i], r)) return false;
     return true;
@@ -180,6 +179,7 @@ static int run(host *h) {
     reason r;
     uint64_t last = clock_milliseconds(), failed = 0;
     start_timer();
+    slice_shorten();
     while (!stopping && is_any_left(h)) {
         struct timespec most = longest_pause(&h->mediation);
         fill(h, polls);
@@ -230,7 +230,6 @@ static const char help[] =
 static int join(char *const *words) {
     struct stat about;
     reason r = {""};
-    slice_shorten();
     if (stat(words[1], &about)) refuse(&r, "%.200s: %s", words[1], strerror(errno));
     else peer_join(words[0], words + 2, &(peer_memory){words[1], (uint64_t)about.st_size}, &r);
     fprintf(stderr, "nvmed-host: %s\n", r.text);
