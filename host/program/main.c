@@ -13,7 +13,6 @@
 #include "layout.h"
 #include "mediation.h"
 #include "pause.h"
-#include "slice.h"
 
 enum { ENDED = 0, FAILED = 1, USAGE = 2, DRIVE_FAILED = 3, POLLS = 3 * CONFIG_GUESTS, TICK = PAUSE_TICK / 1000 /* milliseconds */ };
 enum { LINES = 8 /* on a guest, in a second */ };
@@ -179,7 +178,6 @@ static int run(host *h) {
     reason r;
     uint64_t last = clock_milliseconds(), failed = 0;
     start_timer();
-    slice_shorten();
     while (!stopping && is_any_left(h)) {
         struct timespec most = longest_pause(&h->mediation);
         fill(h, polls);
