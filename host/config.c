@@ -14,6 +14,7 @@ typedef struct parser {
     reason *r;
     unsigned line; /* counted from 1 */
     bool lanes_said;
+    bool spin_said;
     char room[CONFIG_LINE + 1]; /* the words of the line, with a NUL after each */
     char *word[WORDS];
     unsigned words;
@@ -294,6 +295,16 @@ static bool on_lanes(parser *p) {
     return true;
 }
 
+/* spin MICROSECONDS */
+static bool on_spin(parser *p) {
+    uint64_t spin;
+    if (p->spin_said) return FAULT(p, "%s", "the spin stands in a former line already");
+    if (!number(p, "the spin", p->word[1], 0, CONFIG_SPINS, &spin)) return false;
+    p->c->spin = (uint32_t)spin;
+    p->spin_said = true;
+    return true;
+}
+
 static const struct {
     const char *name;
     unsigned least, most; /* words, the name among them */
@@ -302,6 +313,7 @@ static const struct {
     {"guest", 4, 5, on_guest},     {"extent", 4, 4, on_extent}, {"share", 3, 3, on_share},     {"descriptors", 3, 3, on_descriptors},
     {"version", 3, 3, on_version}, {"listen", 3, 3, on_listen}, {"start", 3, WORDS, on_start}, {"drive", 3, 4, on_drive},
     {"lanes", 2, 2, on_lanes},
+    {"spin", 2, 2, on_spin},
 };
 
 static bool on_line(parser *p) {
@@ -353,6 +365,7 @@ bool config_parse(config *c, const char *bytes, size_t length, reason *r) {
     parser p = {.c = c, .r = r, .line = 1};
     memset(c, 0, sizeof *c);
     c->lanes = 1;
+    c->spin = CONFIG_SPIN;
     if (length > CONFIG_BYTES) return refuse(r, "line 1: the configuration is longer than %d bytes", CONFIG_BYTES);
     for (size_t at = 0; at < length; p.line++) {
         const char *feed = memchr(bytes + at, '\n', length - at);

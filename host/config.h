@@ -22,7 +22,9 @@ enum {
     CONFIG_BYTES = 262144, /* of the whole configuration */
     CONFIG_TEXT = 65536,   /* bytes of all paths and words that are kept, with a NUL each */
     CONFIG_SOCKET = 107,   /* bytes of a socket's path */
-    CONFIG_PATH = 1023     /* bytes of a file's path */
+    CONFIG_PATH = 1023,    /* bytes of a file's path */
+    CONFIG_SPIN = 100,     /* microseconds, where no line says it, */
+    CONFIG_SPINS = 1000000 /* and the most */
 };
 
 typedef struct config_extent {
@@ -54,6 +56,7 @@ typedef struct config {
     config_guest guest[CONFIG_GUESTS];
     unsigned guests; /* 1 to 16 */
     unsigned lanes;  /* 1 to 8; 1 where no line says it */
+    uint32_t spin;   /* microseconds that the program goes on without a pause after its last event, 0 to 1,000,000; 100 where no line says it */
     config_drive drive;
     uint64_t ram;        /* CONFIG_RAM: bytes, a multiple of 4,096, not 0 */
     const char *image;   /* CONFIG_RAM: the file that holds the blocks, or NULL */

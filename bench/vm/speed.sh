@@ -4,6 +4,8 @@
 # QEMU's own controller lets Linux write most doorbells into memory (Doorbell Buffer Config): a doorbell's register is written only where the controller has
 # said, in memory, too, that it waits for it. With one processor QEMU 7.2's TCG leaves the guest's memory barriers out, so that such a doorbell can get lost: then
 # nothing goes on. It keeps them where a machine may have two, so the machine gets one processor of two that may be there.
+#
+# Where there are three processors or more, the last one is the program's alone, and it waits for its guest's next access without a pause.
 # shellcheck shell=bash disable=SC2034,SC2154
 
 # shellcheck source=/dev/null
@@ -16,6 +18,8 @@ turns=5
 least=95
 # the queues that are measured have no interrupt
 kernel_words="nvme=poll_queues=1"
+# of the program: microseconds without a pause after its last event
+spin=400
 
 # Commands that the drive was given, by the program's lines.
 commands() {
@@ -33,9 +37,11 @@ on_both() {
     cp "$room/image" "$room/own"
     {
         echo "drive ram $(stat -c %s "$room/image") $room/image"
-        guest_lines 0 speed "$kernel_words"
+        echo "spin $spin"
+        guest_lines 0 speed "$kernel_words" | sed "s/^start 0 qemu/start 0 ${on_others[*]} qemu/"
         echo "start 0 -smp 1,maxcpus=2 -drive file=$room/own,format=raw,if=none,id=own -device nvme,drive=own,serial=own,max_ioqpairs=8"
     } > "$room/configuration"
+    wrapper=("${on_last[@]}" "${wrapper[@]}")
     begin_host "$room/configuration" --statistics
     while ((SECONDS < limit)) && kill -0 "$host" 2> /dev/null; do
         now=$(processor)
@@ -72,8 +78,19 @@ table() {
     return "$good"
 }
 
+# The words that keep a command to the last processor, and to the others.
+choose_processors() {
+    local last=$(($(nproc) - 1))
+    on_last=()
+    on_others=()
+    ((last >= 2)) || return 0
+    on_last=(taskset -c "$last")
+    on_others=(taskset -c "0-$((last - 1))")
+}
+
 run() {
     guests=1
+    choose_processors
     make_system
     paint
     check "the program, up to its guest's end" on_both

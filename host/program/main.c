@@ -167,8 +167,9 @@ static bool is_any_left(host *h) {
     return any;
 }
 
-static struct timespec longest_pause(const mediation *m) {
-    uint64_t microseconds = pause_longest(m->due, mediation_is_polled(m), clock_microseconds() - m->moved);
+static struct timespec longest_pause(const host *h) {
+    const mediation *m = &h->mediation;
+    uint64_t microseconds = pause_longest(m->due, mediation_is_polled(m), clock_microseconds() - m->moved, h->config.spin);
     return (struct timespec){(time_t)(microseconds / 1000000), (long)(microseconds % 1000000) * 1000};
 }
 
@@ -179,7 +180,7 @@ static int run(host *h) {
     uint64_t last = clock_milliseconds(), failed = 0;
     start_timer();
     while (!stopping && is_any_left(h)) {
-        struct timespec most = longest_pause(&h->mediation);
+        struct timespec most = longest_pause(h);
         fill(h, polls);
         int ready = ppoll(polls, 3 * h->guests, &most, NULL);
         if (ready < 0 && errno != EINTR) {

@@ -16,6 +16,7 @@ static reason r;
     "# two guests\n"                                                                                                                                      \
     "drive ram 1M /var/tmp/disk   # 2,048 blocks\n"                                                                                                       \
     "lanes 2\n"                                                                                                                                           \
+    "spin 250\n"                                                                                                                                          \
     "guest 0 memory 512M\n"                                                                                                                               \
     "extent 0 1000 64\n"                                                                                                                                  \
     "extent 0 0x500 0x20\n"                                                                                                                               \
@@ -43,7 +44,7 @@ static void refused(const char *text, const char *message) {
 
 static void test_good(void) {
     CHECK_MORE(parse(GOOD), r.text);
-    CHECK(c.guests == 2 && c.lanes == 2 && c.drive == CONFIG_RAM && c.ram == 1 << 20 && !strcmp(c.image, "/var/tmp/disk"));
+    CHECK(c.guests == 2 && c.lanes == 2 && c.spin == 250 && c.drive == CONFIG_RAM && c.ram == 1 << 20 && !strcmp(c.image, "/var/tmp/disk"));
     CHECK(c.guest[0].memory == 512u << 20 && c.guest[0].extents == 2 && c.guest[0].extent[0].base == 1000 && c.guest[0].extent[0].blocks == 64);
     CHECK(c.guest[0].extent[1].base == 0x500 && c.guest[0].extent[1].blocks == 0x20 && c.guest[0].share == 40 && c.guest[0].version == 0x10200);
     CHECK(c.guest[0].descriptors == 4096 && !strcmp(c.guest[0].listen, "/run/guest0.sock") && c.guest[0].starts == 0);
@@ -53,7 +54,7 @@ static void test_good(void) {
     CHECK(!strcmp(c.guest[1].start[3], "") && !strcmp(c.guest[1].start[4], "-m") && !strcmp(c.guest[1].start[5], "512"));
     CHECK(config_blocks(&c) == 0x520);
     CHECK(parse("drive qemu /run/d.sock /dev/shm/m\nguest 0 memory 1G /dev/shm/g0\nextent 0 281474976710655 1\nlisten 0 a\n"));
-    CHECK(c.drive == CONFIG_QEMU && !strcmp(c.socket, "/run/d.sock") && !strcmp(c.memory, "/dev/shm/m") && c.lanes == 1 && c.guest[0].memory == 1u << 30 &&
+    CHECK(c.drive == CONFIG_QEMU && !strcmp(c.socket, "/run/d.sock") && !strcmp(c.memory, "/dev/shm/m") && c.lanes == 1 && c.spin == 100 && c.guest[0].memory == 1u << 30 &&
           !strcmp(c.guest[0].file, "/dev/shm/g0"));
     CHECK(config_blocks(&c) == UINT64_C(1) << 48);
     CHECK(parse("drive vfio 0000:aB:1f.7\nguest 0 memory 4K\nextent 0 0 1\nlisten 0 a#c\n") && !strcmp(c.address, "0000:aB:1f.7") &&
@@ -98,7 +99,7 @@ static void test_lines(void) {
     refused("lanes\n", "line 1: 'lanes' has too few words");
     refused("drive ram 4K a b\n", "line 1: 'drive' has too many words");
     static const char *const few[] = {"extent 0 1", "share 0", "descriptors 0", "version 0", "listen 0", "start 0", "drive ram"};
-    static const char *const many[] = {"extent 0 1 1 1", "share 0 1 1", "descriptors 0 1 1", "version 0 1.2 1", "listen 0 a b", "lanes 1 1"};
+    static const char *const many[] = {"extent 0 1 1 1", "share 0 1 1", "descriptors 0 1 1", "version 0 1.2 1", "listen 0 a b", "lanes 1 1", "spin 1 1"};
     for (size_t i = 0; i < sizeof few / sizeof few[0]; i++) CHECK_MORE(!parse(few[i]) && strstr(r.text, "' has too few words"), few[i]);
     for (size_t i = 0; i < sizeof many / sizeof many[0]; i++) CHECK_MORE(!parse(many[i]) && strstr(r.text, "' has too many words"), many[i]);
     CHECK(!config_parse(&c, "lanes 2\nlanes\0 2\n", 17, &r));
@@ -198,6 +199,11 @@ static void test_rest(void) {
     refused("lanes 0\n", "line 1: the count of lanes is 0, not in 1 to 8");
     refused("lanes 9\n", "line 1: the count of lanes is 9, not in 1 to 8");
     refused("lanes 1\nlanes 1\n", "line 2: the lanes stand in a former line already");
+    refused("spin -1\n", "line 1: the spin is no number below 2^64: -1");
+    refused("spin 1000001\n", "line 1: the spin is 1000001, not in 0 to 1000000");
+    refused("spin 0\nspin 0\n", "line 2: the spin stands in a former line already");
+    CHECK_MORE(parse("spin 0\ndrive ram 4K\nguest 0 memory 4K\nextent 0 0 1\nlisten 0 a\n") && c.spin == 0, r.text);
+    CHECK_MORE(parse("drive ram 4K\nguest 0 memory 4K\nextent 0 0 1\nlisten 0 a\nspin 1000000\n") && c.spin == 1000000, r.text);
     refused("drive ram 4K\ndrive ram 4K\n", "line 2: the drive stands in a former line already");
     refused("drive ram 512\n", "line 1: the drive is 512, no multiple of 4096 from 4096 on");
     refused("drive disk 4K\n", "line 1: the drive is none of ram, qemu and vfio: disk");
@@ -258,7 +264,7 @@ static void test_file(void) {
     unsigned before = open_descriptors();
     CHECK_MORE(config_read(&c, path, &r), r.text);
     CHECK(write(fd, "\nfrob", 5) == 5 && !config_read(&c, path, &r));
-    CHECK_HAS(r.text, ": line 16: unknown word: frob");
+    CHECK_HAS(r.text, ": line 17: unknown word: frob");
     CHECK(ftruncate(fd, CONFIG_BYTES + 1) == 0 && !config_read(&c, path, &r));
     CHECK_HAS(r.text, "the configuration is longer than 262144 bytes");
     CHECK(close(fd) == 0 && unlink(path) == 0);

@@ -3,13 +3,14 @@
 #include "check.h"
 
 int main(void) {
-    static const uint64_t times[] = {0, 1, PAUSE_SPIN - 1, PAUSE_SPIN, PAUSE_SPIN + 1, PAUSE_TICK, UINT64_MAX};
-    for (size_t i = 0; i < sizeof times / sizeof times[0]; i++) {
-        uint64_t t = times[i];
-        CHECK(pause_longest(true, false, t) == 0 && pause_longest(true, true, t) == 0);
-        CHECK(pause_longest(false, false, t) == PAUSE_TICK);
-        CHECK(pause_longest(false, true, t) == (t < PAUSE_SPIN ? 0 : PAUSE_NAP));
-    }
-    CHECK(PAUSE_NAP > 0 && PAUSE_NAP <= PAUSE_SPIN && PAUSE_SPIN < PAUSE_TICK);
+    static const uint64_t times[] = {0, 1, 99, 100, 101, PAUSE_TICK, UINT64_MAX}, spins[] = {0, 1, 100, PAUSE_TICK};
+    for (size_t i = 0; i < sizeof times / sizeof times[0]; i++)
+        for (size_t k = 0; k < sizeof spins / sizeof spins[0]; k++) {
+            uint64_t t = times[i], spin = spins[k];
+            CHECK(pause_longest(true, false, t, spin) == 0 && pause_longest(true, true, t, spin) == 0);
+            CHECK(pause_longest(false, false, t, spin) == (t < spin ? 0 : PAUSE_TICK));
+            CHECK(pause_longest(false, true, t, spin) == (t < spin ? 0 : PAUSE_NAP));
+        }
+    CHECK(PAUSE_NAP > 0 && PAUSE_NAP < PAUSE_TICK);
     return checks_end();
 }
