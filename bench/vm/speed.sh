@@ -1,5 +1,5 @@
 # A part of bench/vm.sh: fio in one Linux guest, on the program and on QEMU's own NVMe controller by turns. The guest has both drives, with equal images, and
-# each job's turns follow one another, two seconds each: a machine whose own speed changes meets both alike.
+# each job's turns follow one another, a second each: a machine whose own speed changes meets both alike.
 #
 # QEMU's own controller lets Linux write most doorbells into memory (Doorbell Buffer Config): a doorbell's register is written only where the controller has
 # said, in memory, too, that it waits for it. With one processor QEMU 7.2's TCG leaves the guest's memory barriers out, so that such a doorbell can get lost: then
@@ -13,7 +13,7 @@ source "$top/bench/vm/linux.sh"
 
 # that bench/vm/parts/speed.sh has: jobs, and turns of each on either drive
 jobs=5
-turns=5
+turns=9
 # hundredths of QEMU's own speed that the program's has to have: 5 are noise
 least=95
 # the queues that are measured have no interrupt

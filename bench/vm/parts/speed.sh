@@ -12,13 +12,15 @@ for name in nvme0n1 nvme1n1; do
     esac
 done
 turn() {
-    fio --name="$3" --filename="$2" --direct=1 --rw="$4" --bs="$5" --iodepth="$6" --size=24m --ioengine=io_uring --hipri --time_based --runtime=2 \
-        --ramp_time=1 --output-format=terse > /tmp/fio || { cat /tmp/fio; false; }
+    fio --name="$3" --filename="$2" --direct=1 --rw="$4" --bs="$5" --iodepth="$6" --size=24m --ioengine=io_uring --hipri --time_based --runtime=1 \
+        --ramp_time=0.5s --output-format=terse > /tmp/fio || { cat /tmp/fio; false; }
     echo "speed $1 $3 $(awk -F ';' '$1 == 3 { print $8 + $49 }' /tmp/fio)"
 }
 while read -r job; do
-    for order in program,QEMU QEMU,program program,QEMU QEMU,program program,QEMU; do
-        for whose in $(echo "$order" | tr , ' '); do
+    for number in 1 2 3 4 5 6 7 8 9; do
+        order="program QEMU"
+        [ $((number % 2)) = 1 ] || order="QEMU program"
+        for whose in $order; do
             case $whose in
                 program) turn program "$shared" $job ;;
                 *) turn QEMU "$own" $job ;;
