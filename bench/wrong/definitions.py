@@ -772,7 +772,7 @@ FRONT_STATEMENTS = [
     ("s4", "nv_core", "specs/Front.antt", "  pub reply : (step geometry e w).reply ≡ r\n", "  pub reply : r ≡ r\n"),
     ("s5", "nv_core", "specs/Front.antt", "  pub world : IsBeside new after (step geometry e w).world\n", "  pub world : IsBeside new after w\n"),
     ("s6", "nv_laws_front", "specs/Reached.antt", "  pub clear : AreRingsClear s first.host\n", "  pub clear : AreRingsClear (record s { lanes = 1 }) first.host\n"),
-    ("s7", "nv_laws_front", "specs/Reached.antt", "  pub starts : IsFirst s first\n", "  pub starts : IsFirst s (record first { kept = (λ _. false) })\n"),
+    ("s7", "nv_laws_front", "specs/Reached.antt", "  pub starts : IsFirst s first\n", "  pub starts : IsFirst s (opening_world first.host first.disk s.geometry s.lanes)\n"),
     ("s8", "nv_laws_front", "specs/Reached.antt", "  pub replayed : IsReplay s.geometry first log z\n", "  pub replayed : IsReplay s.geometry z log z\n"),
     ("s9", "nv_laws_front", "specs/Reached.antt", "  pub fitting : All (λ l. HasFittingStatus l.event) log\n", "  pub fitting : All (λ l. l ≡ l) log\n"),
     ("s10", "nv_laws_front", "specs/Reached.antt", "  pub beside : IsBeside side memory z\n", "  pub beside : IsBeside side memory first\n"),
