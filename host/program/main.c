@@ -131,11 +131,14 @@ static void fill(host *h, struct pollfd *polls) {
     }
 }
 
-static void serve(host *h, guest *g, const struct pollfd *p) {
+/* Whether there was something of the guest's. */
+static bool serve(host *h, guest *g, const struct pollfd *p) {
     reason r;
+    bool there = p[0].revents || p[1].revents || p[2].revents || (g->connected && g->link.partial);
     if (p[1].revents) guest_accept(g);
     if (p[2].revents && g->connected && !guest_acknowledged(g, &r)) lose(h, g, &r);
     if (g->connected && (p[0].revents || g->link.partial) && !guest_serve(g, &h->mediation, &r)) lose(h, g, &r);
+    return there;
 }
 
 /* What the drive was given in the last second, where that was asked for. */
@@ -146,7 +149,7 @@ static void say_counts(host *h) {
     fprintf(stderr, "nvmed-host: %s\n", text);
 }
 
-/* The guests see what has become of their commands. */
+/* The guests see what has become of their commands. Nothing has where no guest has done anything and no event was made. */
 static void tell(host *h) {
     reason r;
     for (unsigned i = 0; i < h->guests; i++) {
@@ -187,7 +190,8 @@ static int run(host *h) {
             fprintf(stderr, "nvmed-host: guests cannot be waited for: %s\n", strerror(errno));
             return FAILED;
         }
-        for (unsigned i = 0; i < h->guests; i++) serve(h, &h->guest[i], polls + 3 * i);
+        bool stirred = false;
+        for (unsigned i = 0; i < h->guests; i++) stirred |= serve(h, &h->guest[i], polls + 3 * i);
         bool good = mediation_work(&h->mediation, &r);
         if (good && clock_milliseconds() - last >= TICK) {
             last = clock_milliseconds();
@@ -199,7 +203,7 @@ static int run(host *h) {
             fprintf(stderr, "nvmed-host: the drive: %s\n", r.text);
             failed = clock_milliseconds();
         }
-        tell(h);
+        if (stirred || h->mediation.worked || !good) tell(h);
         if (failed && clock_milliseconds() - failed >= TICK) return DRIVE_FAILED;
     }
     return ENDED;

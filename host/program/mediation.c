@@ -104,6 +104,7 @@ static bool ring(mediation *m, unsigned lane, reason *r) {
     nvmed_lane_rings now;
     if (nvmed_rings(&m->mediator, lane, &now) != NVMED_OK) return refuse(r, "the mediator has no lane %u", lane);
     unsigned sent = steps(told->tail, now.tail), answered = steps(told->head, now.head);
+    if (!sent && !answered) return true;
     if (answered || !told->flying) told->since = clock_milliseconds();
     note_answered(m, lane, &now, answered);
     note_sent(m, lane, &now, sent);
@@ -139,12 +140,15 @@ static bool turn_drive(mediation *m, nvmed_status status, reason *r) {
 
 bool mediation_work(mediation *m, reason *r) {
     uint64_t done, begin = clock_microseconds();
+    m->worked = false;
     do {
         nvmed_status status = nvmed_work(&m->mediator, NVMED_OF_ALL, 0, EVENTS, &done);
         m->due = done != 0;
         if (m->disk && !turn_drive(m, status, r)) return give_up(m);
-        if (m->due) m->moved = clock_microseconds();
-    } while (m->due && m->moved - begin < SLICE);
+        if (!m->due) break;
+        m->worked = true;
+        m->moved = clock_microseconds();
+    } while (m->moved - begin < SLICE);
     return true;
 }
 

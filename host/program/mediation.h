@@ -29,6 +29,7 @@ typedef struct mediation {
     mediation_lane lane[NVME_LANES];
     bool due;       /* more may be due at once */
     uint64_t moved; /* when something was done last: microseconds */
+    bool worked;    /* whether something was done by the last call of mediation_work */
 } mediation;
 
 /* Opens the drive, makes the mediator, and creates the lanes' queues. Where it fails nothing is left open. What the drive is given is not counted: who wants
