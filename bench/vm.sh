@@ -14,8 +14,8 @@
 #                             controller stops answering; it shows a fatal status; it has a block that cannot be read; it is slow, and a guest's reset and
 #                             next QEMU wait for its Reads, a shutdown not for those of others; a guest's lists have no end; a message is not ended;
 #                             1,000,000 rounds of random input for transport and configuration
-#     bench/vm.sh speed       fio in one guest on the program and on QEMU's own controller, by turns, on the same image with the same kernel words; and the
-#                             processor time that the program needs for a command
+#     bench/vm.sh speed       fio in one guest that has the program's drive and one of QEMU's own controller, by turns of a second, with equal images; and
+#                             the processor time that the program needs for a command
 #     bench/vm.sh hour [N]    two Linux guests at work and a hostile one for an hour, or N minutes: the program's memory and descriptors are constant
 #
 # They need Debian's qemu-system-x86; vfio busybox-static and cpio, too; firmware ovmf, mtools and dosfstools; the others busybox-static, cpio, nvme-cli, fio
