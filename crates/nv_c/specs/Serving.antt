@@ -41,11 +41,11 @@ IsServed e before after old status new = (r : Reply) × (status ≡ status_of r)
 abbrev pub IsNotDone : (why : ℕ) → (before after : List ℕ) → (old : Served) → (status : ℕ) → (new : Served) → Type 0
 IsNotDone why before after old status new = (status ≡ why) × (new ≡ old) × (after ≡ before)
 
--- what is known of an event that was made, whatever is in memory: of a Reap, that the next completion of the lane is answered so, and that it was read
--- where it was new
+-- what is known of an event that was made, whatever is in memory: of a Reap, that the next completion of the lane is answered so, that it was read where it
+-- was new, and that memory is as it was
 abbrev pub IsAnswered : Event → (before after : List ℕ) → (old : Served) → Reply → (new : Served) → Type 0
 IsAnswered (event.Reap lane) before after old r new =
-    (answer_of old.setup.geometry lane (slice_get old.side.lanes lane) before ≡ Some r)
+    (answer_of old.setup.geometry lane (slice_get old.side.lanes lane) before ≡ Some r) × (after ≡ before)
     × (r ≡ reply.Done → IsReaped old.setup.geometry lane old.side new.side before) × ((r ≡ reply.Done → ⊥) → new ≡ old)
 IsAnswered e before after old r new = IsDone e old before r new after
 
