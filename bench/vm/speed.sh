@@ -5,7 +5,8 @@
 # said, in memory, too, that it waits for it. With one processor QEMU 7.2's TCG leaves the guest's memory barriers out, so that such a doorbell can get lost: then
 # nothing goes on. It keeps them where a machine may have two, so the machine gets one processor of two that may be there.
 #
-# Where there are three processors or more, the last one is the program's alone, and it waits for its guest's next access without a pause.
+# Where there are three processors or more, the last one is the program's alone, and it waits for its guest's next access without a pause. The first one is
+# that of the guest's own processor, and the others have the rest of QEMU. So threads are where they are in each run.
 # shellcheck shell=bash disable=SC2034,SC2154
 
 # shellcheck source=/dev/null
@@ -31,6 +32,19 @@ processor() {
     awk -v tick="$(getconf CLK_TCK)" '{ print ($14 + $15) / tick }' "/proc/$host/stat" 2> /dev/null || true
 }
 
+# Puts the threads of the program's QEMU on their processors, as far as they are there by now.
+place_threads() {
+    local task name
+    ((${#on_last[@]} != 0)) || return 0
+    for task in $(pgrep -P "$host" qemu | sed 's|.*|/proc/&/task/*|'); do
+        name=$(cat "$task/comm" 2> /dev/null) || continue
+        case $name in
+            CPU*) taskset -cp 0 "${task##*/}" ;;
+            *) taskset -cp "$rest" "${task##*/}" ;;
+        esac
+    done > "$room/output" 2>&1 || true
+}
+
 # The guest at work on both drives, up to its end.
 on_both() {
     local now spent=0 status=0
@@ -39,13 +53,14 @@ on_both() {
         echo "drive ram $(stat -c %s "$room/image") $room/image"
         echo "spin $spin"
         guest_lines 0 speed "$kernel_words" | sed "s/^start 0 qemu/start 0 ${on_others[*]} qemu/"
-        echo "start 0 -smp 1,maxcpus=2 -drive file=$room/own,format=raw,if=none,id=own -device nvme,drive=own,serial=own,max_ioqpairs=8"
+        echo "start 0 -smp 1,maxcpus=2 -drive file=$room/own,format=raw,if=none,id=own -device nvme,drive=own,serial=own,max_ioqpairs=8 -name speed,debug-threads=on"
     } > "$room/configuration"
     wrapper=("${on_last[@]}" "${wrapper[@]}")
     begin_host "$room/configuration" --statistics
     while ((SECONDS < limit)) && kill -0 "$host" 2> /dev/null; do
         now=$(processor)
         [[ -z $now ]] || spent=$now
+        place_threads
         sleep 0.2
     done
     host_ended 0 || status=1
@@ -78,7 +93,7 @@ table() {
     return "$good"
 }
 
-# The words that keep a command to the last processor, and to the others.
+# The words that keep a command to the last processor, and to the others; and the processors that the rest of QEMU has.
 choose_processors() {
     local last=$(($(nproc) - 1))
     on_last=()
@@ -86,6 +101,7 @@ choose_processors() {
     ((last >= 2)) || return 0
     on_last=(taskset -c "$last")
     on_others=(taskset -c "0-$((last - 1))")
+    rest=1-$((last - 1))
 }
 
 run() {

@@ -1,4 +1,4 @@
--- What the replies of a Take and of a Submit say: that it was due, and is done, or that nothing has changed.
+-- What the replies of a Take, a Submit and a Post say: that it was due, and is done, or that nothing has changed.
 use Rattle.std.proofs.Common.{◌≡◌, ◌==◌, refl, sym, ap, ◌∙◌, ℕ, ◌&&◌, Bool, true, false, cond, not, List, Option, Some, None, slice_get}
 use Rattle.nv_core.proofs.Sides.{own-world}
 use Rattle.nv_core.specs.Jobs.{job_in, job_with}
@@ -10,8 +10,10 @@ use Rattle.nv_host.specs.Served.{IsDone, has_share, is_closed}
 use Rattle.nv_host.specs.Work.{IsDue, IsWork, NotDue, Scene}
 use Rattle.nv_host.specs.declared.worked.Scope.TheVariants as scope
 use Rattle.nv_laws.proofs.related.Goings.{not-telling}
-use Rattle.nv_laws.proofs.related.Ways.{device-way, either-way, guest-way, lane-way, owner-way, taken-way}
-use Rattle.nv_model.specs.Controller.{front}
+use Rattle.nv_laws.proofs.related.Ways.{device-way, either-way, ended-way, guest-way, lane-way, owner-way, taken-way}
+use Rattle.nv_entry.specs.Status.{StatusField}
+use Rattle.nv_entry.specs.Submission.{cid_of}
+use Rattle.nv_model.specs.Controller.{Posted, front, is_enabled, post}
 use Rattle.nv_model.specs.Transcript.{Outcome, ReadDone, Settled, Wanted}
 use Rattle.nv_model.specs.declared.reply.Reply.{Reply}
 use Rattle.nv_model.specs.declared.reply.Reply.TheVariants as reply
@@ -22,7 +24,7 @@ use Rattle.nv_world_model.specs.Geometry.{Geometry, Guest}
 use Rattle.nv_world_model.specs.Plan.{Plan, plan_over}
 use Rattle.nv_world_model.specs.Seat.{Owner, owner_of}
 use Rattle.nv_world_model.specs.Share.{tags_of_entry}
-use Rattle.nv_world_model.specs.Step.{After, entry_at, is_done, is_io_queue, is_telling, replied, step, submit_by, take_front, take_tags}
+use Rattle.nv_world_model.specs.Step.{After, deciding, entry_at, is_done, is_io_queue, is_telling, post_all, post_by, replied, statuses_of, step, submit_by, take_front, take_tags}
 use Rattle.nv_world_model.specs.World.{Command, Lane, Taken, World, claimed, group, tag_in, tag_of}
 use Rattle.nv_world_model.specs.declared.event.Event.{Event}
 use Rattle.nv_world_model.specs.declared.event.Event.TheVariants as event
@@ -64,6 +66,24 @@ module _ (w : World) where
       owner-way ReportsDone w (none-done w) (owner_of geometry w command.guest) _ (λ o found.
       device-way ReportsDone w (none-done w) (slice_get w.device lane) _ (λ d there.
       by_outcome geometry.mediator lane tag command o (plan_over o.given command.entry reads))))
+
+  by_room : (st : StatusField) (mediator lane : ℕ) (tags : List ℕ) (o : Owner) (x : Option Posted) → ReportsDone (post_by x st mediator lane tags o w)
+  by_room st mediator lane tags o None = refl
+  by_room st mediator lane tags o (Some posted) = refl
+
+  by_statuses : (command : Command) (mediator lane : ℕ) (tags : List ℕ) (o : Owner) (x : Option (List StatusField))
+      → ReportsDone (post_all x command mediator lane tags o w)
+  by_statuses command mediator lane tags o None = refl
+  by_statuses command mediator lane tags o (Some sts) =
+      either-way ReportsDone w (none-done w) (is_enabled o.controller) _ _
+      (λ enabled. by_room (deciding sts) mediator lane tags o (post o.controller command.queue 0 (cid_of command.entry) (deciding sts))) (λ fell. refl)
+
+  post-reports : (geometry : Geometry) (lane tag : ℕ) → ReportsDone (step geometry (event.Post lane tag) w)
+  unfolding step
+  post-reports geometry lane tag =
+      ended-way ReportsDone w (none-done w) tag (tag_of w lane tag) _ (λ command st share at leads.
+      owner-way ReportsDone w (none-done w) (owner_of geometry w command.guest) _ (λ o found.
+      by_statuses command geometry.mediator lane (group w lane tag) o (statuses_of lane (group w lane tag) w)))
 
   -- ---- a Submit that is done
 
@@ -153,6 +173,20 @@ module _ (a : Scene) (guest queue lane : ℕ) (r : Reply) (b : Scene)
 
   pub take-dull : (r ≡ reply.Done → ⊥) → b ≡ a
   take-dull = done-dull (event.Take guest queue lane) a r b made (λ w. take-reports w a.served.setup.geometry guest queue lane)
+
+module _ (a : Scene) (lane tag : ℕ) (r : Reply) (b : Scene) (made : IsDone (event.Post lane tag) a.served a.memory r b.served b.memory) where
+  -- a Post was due where it was done
+  pub post-due : r ≡ reply.Done → IsDue a (event.Post lane tag)
+  unfolding due
+  post-due done w on = (refl, ap is_done ((made.worlds w on).reply ∙ done))
+
+  -- and was not where it was not done
+  pub post-undue : (r ≡ reply.Done → ⊥) → NotDue a (event.Post lane tag)
+  unfolding due
+  post-undue other w on is = true-false (is_done r) (sym (ap is_done (made.worlds w on).reply) ∙ is.1) (undone r other)
+
+  pub post-dull : (r ≡ reply.Done → ⊥) → b ≡ a
+  post-dull = done-dull (event.Post lane tag) a r b made (λ w. post-reports w a.served.setup.geometry lane tag)
 
 pub submit-dull : (a : Scene) (lane tag : ℕ) (r : Reply) (b : Scene) → IsDone (event.Submit lane tag) a.served a.memory r b.served b.memory
     → (r ≡ reply.Done → ⊥) → b ≡ a

@@ -1,5 +1,5 @@
 -- Where nothing of a scope is left to be done.
-use Rattle.std.proofs.Common.{◌≡◌, refl, sym, subst, ap, ◌∙◌, ℕ, ◌<◌, ◌≤◌, Bool, true, false, ◌&&◌, ◌==◌, cond, inl, inr, arith, eqb-true, nat_lt}
+use Rattle.std.proofs.Common.{◌≡◌, refl, sym, subst, ap, ◌∙◌, ℕ, ◌<◌, ◌≤◌, Bool, true, false, ◌&&◌, ◌||◌, ◌==◌, cond, inl, inr, arith, eqb-true, nat_lt}
 use Rattle.std.proofs.Common.{List, length, slice_get, Option, Some, None, is_some}
 use Rattle.std.proofs.lemmas.Bool.{cases_lt}
 use Rattle.std.proofs.lemmas.Bool.Decides.{nat_tests}
@@ -36,6 +36,10 @@ use Rattle.nv_world_model.specs.declared.event.Event.TheVariants as event
 
 pub true-false : (b : Bool) → b ≡ true → b ≡ false → ⊥
 true-false b is isnt = (let bad : true ≡ false = sym is ∙ isnt in cc)
+
+pub or-true : (b : Bool) → b || true ≡ true
+or-true true = refl
+or-true false = refl
 
 pub and-false : (b : Bool) → b && false ≡ false
 and-false true = refl

@@ -1,9 +1,11 @@
 -- Passes one after another: over many parts, and over two.
-use Rattle.std.proofs.Common.{◌≡◌, refl, sym, subst, ℕ, ◌+◌, ◌-◌, ◌^◌, ◌<◌, ◌≤◌, arith, below_more, inl, inr}
-use Rattle.std.proofs.lemmas.Bool.{cases_lt}
+use Rattle.std.proofs.Common.{◌≡◌, refl, sym, subst, ℕ, ◌+◌, ◌-◌, ◌^◌, ◌<◌, ◌≤◌, ◌⊎◌, false, true, arith, below_more, inl, inr}
+use Rattle.std.proofs.lemmas.Bool.{cases_eq, cases_lt}
+use Rattle.std.specs.Bool.{⊤}
 use Rattle.nv_host.proofs.Works.{ended-after, ended-enough, ended-few, ended-so, leads_more, leads_none, leads_zero}
-use Rattle.nv_host.specs.Passes.{IsPass}
+use Rattle.nv_host.specs.Passes.{IsPass, IsRoundOf}
 use Rattle.nv_host.specs.Work.{HasEnded, IsWorked, Leads, Rests, Scene}
+use Rattle.nv_host.specs.declared.worked.Round.{Round}
 use Rattle.nv_host.specs.declared.worked.Scope.{Scope}
 use Rattle.nv_host.specs.declared.worked.Why.{Why}
 use Rattle.nv_host.specs.declared.worked.Why.TheVariants as why
@@ -141,7 +143,38 @@ module _ (sc : Scope) (nothing first : Type 0) (most : ℕ) (w : Worked) (a b : 
       so (enough.2 (omega (arith, zero)))
       (subst second (leads_zero sc a b w.done enough.0 (omega (arith, zero))) (rest (omega (arith, zero)))))
 
+-- ---- parts of which nothing is due after a round
+
+-- one more, of which nothing was due
+pub late-none : (P : Scene → ℕ → Type 0) (b c : Scene) (from i next : ℕ) → ((k : ℕ) → from ≤ k → k < i → P b k) → P b i → c ≡ b
+    → ((k : ℕ) → i + 1 ≤ k → k < next → P c k) → (k : ℕ) → from ≤ k → k < next → P c k
+late-none P b c from i next before here same after k low below = (elim (cases_lt k i) [
+  | inl less ↦ subst (λ (x : Scene). P x k) (sym same) (before k low less)
+  | inr high ↦
+      (elim (cases_eq k i) [
+        | inl is ↦ subst (λ (x : Scene). P x k) (sym same) (subst (P b) (sym is) here)
+        | inr other ↦ after k (omega (arith, high, other)) below
+      ])
+])
+
+-- a round of which it isn't known whether anything is left
+pub round-of : (sc : Scope) (most : ℕ) (w : Worked) (round : Round) (a b : Scene) → round ≡ (let r : Round = record { worked = w; rests = false } in r)
+    → IsPass sc (Rests sc a) most w a b → IsRoundOf sc most round a b
+round-of sc most w round a b e pass =
+    subst (λ (x : Round). IsRoundOf sc most x a b) (sym e) (record { pass = pass; rest = λ rests. cc })
+
 -- ---- the whole
+
+-- no round follows what came first, where something ended the call
+pub first-stops : (sc : Scope) (part most : ℕ) (w : Worked) (a b : Scene) → IsPass sc ⊤ part w a b → part ≤ most → (w.why ≡ why.Enough → ⊥)
+    → IsWorked sc most w a b
+first-stops sc part most w a b pass within stops = by w.why stops pass
+  where
+    by : (y : Why) → (y ≡ why.Enough → ⊥) → HasEnded sc part w.done (w.done ≡ 0 → ⊤) y a b → HasEnded sc most w.done (w.done < most → Rests sc b) y a b
+    by why.Enough on ended = absurd (on refl)
+    by why.Starved on ended = (ended.0, (let few = ended.1 in omega (arith, few, within)), ended.2)
+    by why.GaveUp on ended = (ended.0, (let few = ended.1 in omega (arith, few, within)))
+    by (why.Stray lane) on ended = (ended.0, (let few = ended.1 in omega (arith, few, within)), ended.2)
 
 -- no round follows one that found nothing or was ended
 pub worked-end : (sc : Scope) (most done : ℕ) (w whole : Worked) (a b c : Scene) → whole ≡ behind done w → Leads sc done a b → done ≤ most
@@ -153,6 +186,17 @@ worked-end sc most done w whole a b c e leads few ended none =
     (let zero = none is in
     let here = ended-enough sc (most - done) w.done (w.done ≡ 0 → Rests sc b) w.why b c ended is in
     subst (λ (x : Scene). Rests sc x) (sym (leads_zero sc b c w.done here.0 zero)) (rest zero))))
+
+-- nor one after which nothing is left
+pub round-last : (sc : Scope) (most done : ℕ) (round : Round) (whole : Worked) (a b c : Scene) → whole ≡ behind done round.worked → Leads sc done a b
+    → done ≤ most → IsRoundOf sc (most - done) round b c → (round.rests ≡ true) ⊎ (round.worked.why ≡ why.Enough → round.worked.done ≡ 0)
+    → IsWorked sc most whole a c
+round-last sc most done round whole a b c e leads few is (inl rests) =
+    let w : Worked = round.worked in
+    subst (λ (x : Worked). IsWorked sc most x a c) (sym e)
+    (ended-after sc most done w.done (done + w.done < most → Rests sc c) (w.done ≡ 0 → Rests sc b) w.why a b c leads few is.pass
+    (λ on rest less. (is.rest rests).1))
+round-last sc most done round whole a b c e leads few is (inr none) = worked-end sc most done round.worked whole a b c e leads few is.pass none
 
 -- another may
 pub worked-on : (sc : Scope) (most done : ℕ) (w whole : Worked) (a b c : Scene) → whole ≡ behind done w → Leads sc done a b → done ≤ most

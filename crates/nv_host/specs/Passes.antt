@@ -1,5 +1,5 @@
 -- What the calls below `HostMediator::work` say of each other (profile).
-use Rattle.std.specs.Prelude.{◌≡◌, ℕ, slice_get, IsSome, Some}
+use Rattle.std.specs.Prelude.{◌≡◌, ℕ, true, slice_get, IsSome, Some}
 use Rattle.nv_core.specs.Jobs.{holder_in, job_in}
 use Rattle.nv_core.specs.Submit.{IsLimit}
 use Rattle.nv_core.specs.declared.holding.Holder.{Holder}
@@ -9,6 +9,8 @@ use Rattle.nv_host.specs.declared.planning.Stride.{Stride}
 use Rattle.nv_host.specs.declared.planning.Stride.TheVariants as stride
 use Rattle.nv_host.specs.declared.worked.Scope.{Scope}
 use Rattle.nv_host.specs.declared.worked.Scope.TheVariants as scope
+use Rattle.nv_host.specs.declared.worked.Round.{Round}
+use Rattle.nv_host.specs.declared.worked.Why.TheVariants as why
 use Rattle.nv_host.specs.declared.worked.Worked.{Worked}
 use Rattle.nv_model.specs.Transcript.{Settled}
 use Rattle.nv_plan.specs.Fed.{UnderWay}
@@ -22,6 +24,11 @@ use Rattle.nv_world_model.specs.declared.event.Event.TheVariants as event
 -- one pass over a part of the work: where it made no event, and nothing stopped it, this much is known of what it found
 abbrev pub IsPass : Scope → (nothing : Type 0) → (most : ℕ) → Worked → (old new : Scene) → Type 0
 IsPass sc nothing most worked old new = HasEnded sc most worked.done (worked.done ≡ 0 → nothing) worked.why old new
+
+-- one round of a scope: where it made no event, and nothing stopped it, nothing was due; and nothing is left where that is known
+pub record IsRoundOf (sc : Scope) (most : ℕ) (round : Round) (old new : Scene) : Type 0 where
+  pub pass : IsPass sc (Rests sc old) most round.worked old new
+  pub rest : round.rests ≡ true → (round.worked.why ≡ why.Enough) × Rests sc new
 
 -- no command of a guest's waits for its plan by that tag, by any tag of a lane, and by any at all below a lane
 abbrev pub NoneWaitsAt : Scene → (guest lane tag : ℕ) → Type 0

@@ -1,6 +1,6 @@
 //! What is asked of [`HostMediator::work`](crate::HostMediator::work), and what it answers.
 
-ghost use Rattle.std.specs.Prelude.{◌≡◌, ◌+◌, ◌^◌, ◌<◌, ◌≤◌, IsTrue, false};
+ghost use Rattle.std.specs.Prelude.{◌≡◌, ◌+◌, ◌^◌, ◌<◌, ◌≤◌, ◌⊎◌, IsTrue, false, true};
 
 use nv_model::Reply;
 
@@ -90,6 +90,38 @@ impl Worked {
             return true;
         }
         self.done == 0
+    }
+}
+
+/// How a round of a scope went.
+#[derive(Clone, Copy)]
+pub(crate) struct Round {
+    /// the events of the round
+    pub(crate) worked: Worked,
+    /// whether it is known that nothing is left
+    pub(crate) rests: bool,
+}
+
+impl Round {
+    /// A round of which it isn't known whether anything is left.
+    pub(crate) fn of(worked: Worked) -> Self
+        ensures { result ≡ record { worked = worked; rests = false } }
+    {
+        Round {
+            worked,
+            rests: false,
+        }
+    }
+
+    /// Whether no other round follows: something ended the call, or nothing is left.
+    pub(crate) fn is_last(&self) -> bool
+        ensures yes { IsTrue result → (self.now.rests ≡ true) ⊎ (self.now.worked.why ≡ Why.Enough → self.now.worked.done ≡ 0) }
+        ensures no { result ≡ false → (self.now.worked.why ≡ Why.Enough) × (0 < self.now.worked.done) }
+    {
+        if self.rests {
+            return true;
+        }
+        self.worked.is_last()
     }
 }
 

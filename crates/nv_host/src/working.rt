@@ -1,15 +1,15 @@
 //! What is due, carried out.
 
-ghost use Rattle.std.specs.Prelude.{◌≡◌, ◌<◌, ◌≤◌, ◌==◌, ℕ, IfOk, IsTrue, List, OnErr, Some, false, length, slice_get, true};
+ghost use Rattle.std.specs.Prelude.{◌≡◌, ◌<◌, ◌≤◌, ◌==◌, ℕ, ⊤, [], IfOk, IsTrue, List, OnErr, Some, false, length, slice_get, true};
 ghost use Rattle.std.specs.List.{list_any};
-ghost use Rattle.nv_host.specs.Passes.{LaneRests, IsPass, NonePosts, QueuesRest};
+ghost use Rattle.nv_host.specs.Passes.{LaneRests, IsPass, IsRoundOf, NonePosts, QueuesRest};
 ghost use Rattle.nv_host.specs.Work.{IsStray, IsWorked, Leads, NotDue, Rests, scene};
 ghost use Rattle.nv_world_model.specs.Area.{tag_count};
 ghost use Rattle.nv_world_model.specs.SetUp.{most_guests};
 ghost use Rattle.nv_world_model.specs.World.{Lane};
 
 use crate::host_mediator::HostMediator;
-use crate::worked::{Scope, Why, Worked, is_done};
+use crate::worked::{Round, Scope, Why, Worked, is_done};
 use nv_core::Stray;
 use nv_mem::MemoryCell;
 use nv_tags::Group;
@@ -25,9 +25,10 @@ impl HostMediator {
     /// Of a lane the drive's completions are read, and the commands that have ended are completed for their guests. Of a guest its admin commands are
     /// carried out; its commands that wait are planned and handed on, and others are taken. A command for whose plan there is no memory is given up.
     ///
-    /// It goes round until nothing is left: all lanes, each with its commands that wait for their plans, and then the queues of all guests. These commands of
-    /// a lane, and each guest's queues, get 64 events at most before the next turn. The lists of a command that was begun are read up to their end, as far as `most`
-    /// allows, since a plan that is cut off begins again with what was read.
+    /// The guests' queues come first, with half of `most` at most, so that a call which takes commands polls the lanes once. Then it goes round until nothing
+    /// is left: all lanes, each with its commands that wait for their plans, and the queues of all guests. These commands of a lane, and each guest's queues,
+    /// get 64 events at most before the next turn. The lists of a command that was begun are read up to their end, as far as `most` allows, since a plan that
+    /// is cut off begins again with what was read.
     ///
     /// A round costs what its events cost, and a look at each lane. Tags are looked at where their commands wait or have ended, and guests where a note says that
     /// something may be due of their queues; the note is made when the guest's controller changes. Of the commands that wait for room in one completion queue
@@ -55,17 +56,44 @@ impl HostMediator {
         ensures spare { self.new.spare ≡ self.old.spare }
         ensures len { length (C.bytes memory.new) ≡ length (C.bytes memory.old) }
     {
-        let mut done: u64 = 0;
+        let early = self.serve_first(alloc, scope, most / 2, memory);
+        let stopped = early.has_stopped();
+        if stopped {
+            return early;
+        }
+        let mut done = early.done;
         while done < most {
-            let pass = self.go_round(alloc, scope, most - done, memory);
-            let last = pass.is_last();
-            let whole = Worked::after(done, pass);
-            if last {
+            let round = self.go_round(alloc, scope, most - done, memory);
+            let whole = Worked::after(done, round.worked);
+            if round.is_last() {
                 return whole;
             }
             done = whole.done;
         }
         Worked::so_far(done)
+    }
+
+    // What comes before the rounds, so many events at most: where it is a matter of all, a turn of each guest's queues.
+    fn serve_first<C: MemoryCell>(
+        &mut self,
+        alloc: Global,
+        scope: Scope,
+        most: u64,
+        memory: &mut [C],
+    ) -> Worked
+        requires { length (C.bytes memory.old) ≡ self.old.setup.host_bytes }
+        ensures pass { IsPass scope ⊤ most result (scene self.old (C.bytes memory.old)) (scene self.new (C.bytes memory.new)) }
+        ensures setup { self.new.setup ≡ self.old.setup }
+        ensures len { length (C.bytes memory.new) ≡ length (C.bytes memory.old) }
+    {
+        if most == 0 {
+            return Worked::so_far(0);
+        }
+        match scope {
+            Scope::Guest(_guest) => Worked::so_far(0),
+            Scope::Lane(_lane) => Worked::so_far(0),
+            Scope::All => self.serve_guests(alloc, most, memory),
+        }
     }
 
     // One round of a scope.
@@ -75,74 +103,146 @@ impl HostMediator {
         scope: Scope,
         most: u64,
         memory: &mut [C],
-    ) -> Worked
+    ) -> Round
         requires some { 0 < most }
         requires lent { length (C.bytes memory.old) ≡ self.old.setup.host_bytes }
-        ensures pass { let old = scene self.old (C.bytes memory.old) in
-            IsPass scope (Rests scope old) most result old (scene self.new (C.bytes memory.new)) }
+        ensures round { IsRoundOf scope most result (scene self.old (C.bytes memory.old)) (scene self.new (C.bytes memory.new)) }
         ensures setup { self.new.setup ≡ self.old.setup }
         ensures len { length (C.bytes memory.new) ≡ length (C.bytes memory.old) }
     {
         match scope {
-            Scope::Guest(guest) => self.serve_guest(alloc, guest, most, most, memory),
-            Scope::Lane(lane) => self.serve_lane(lane, most, memory),
+            Scope::Guest(guest) => {
+                let worked = self.serve_guest(alloc, guest, most, most, memory);
+                Round::of(worked)
+            }
+            Scope::Lane(lane) => {
+                let worked = self.serve_lane(lane, most, memory);
+                Round::of(worked)
+            }
             Scope::All => self.serve_all(alloc, most, memory),
         }
     }
 
-    // One round of all: the lanes with their commands that wait for their plans, and then the guests' queues.
-    fn serve_all<C: MemoryCell>(&mut self, alloc: Global, most: u64, memory: &mut [C]) -> Worked
+    // One round of all: the lanes with their commands that wait for their plans, and then the guests' queues. Where nothing was due of these, only the lanes
+    // up to the last that had something are polled once more.
+    fn serve_all<C: MemoryCell>(&mut self, alloc: Global, most: u64, memory: &mut [C]) -> Round
         requires some { 0 < most }
         requires lent { length (C.bytes memory.old) ≡ self.old.setup.host_bytes }
-        ensures pass { let old = scene self.old (C.bytes memory.old) in
-            IsPass Scope.All (Rests Scope.All old) most result old (scene self.new (C.bytes memory.new)) }
+        ensures round { IsRoundOf Scope.All most result (scene self.old (C.bytes memory.old)) (scene self.new (C.bytes memory.new)) }
         ensures setup { self.new.setup ≡ self.old.setup }
         ensures len { length (C.bytes memory.new) ≡ length (C.bytes memory.old) }
     {
         self.sizes();
-        let lanes = self.serve_lanes(alloc, most, memory);
+        let served = self.serve_lanes(alloc, most, memory);
+        let (lanes, upto) = served;
         if lanes.ends(most) {
-            return lanes;
+            return Round::of(lanes);
         }
-        let done = lanes.done;
-        let guests = self.serve_guests(alloc, most - done, memory);
-        Worked::after(done, guests)
+        let guests = self.serve_guests(alloc, most - lanes.done, memory);
+        let worked = Worked::after(lanes.done, guests);
+        if guests.ends(1) {
+            return Round::of(worked);
+        }
+        let busy = self.next_busy(0, upto, memory);
+        self.sizes();
+        Round {
+            worked,
+            rests: busy >= upto,
+        }
     }
 
-    // One round of all lanes. Those of which nothing is due are passed by.
-    fn serve_lanes<C: MemoryCell>(&mut self, alloc: Global, most: u64, memory: &mut [C]) -> Worked
+    // One round of all lanes. Those of which nothing is due are passed by. Of the lanes from the number on that is returned, too, nothing is due after it.
+    fn serve_lanes<C: MemoryCell>(
+        &mut self,
+        alloc: Global,
+        most: u64,
+        memory: &mut [C],
+    ) -> (Worked, u8)
         requires some { 0 < most }
         requires lent { length (C.bytes memory.old) ≡ self.old.setup.host_bytes }
         ensures pass { let old = scene self.old (C.bytes memory.old) in
-            IsPass Scope.All ((lane : ℕ) → lane < self.old.setup.lanes → LaneRests old lane) most result old (scene self.new (C.bytes memory.new)) }
+            IsPass Scope.All ((lane : ℕ) → lane < self.old.setup.lanes → LaneRests old lane) most result.0 old (scene self.new (C.bytes memory.new)) }
+        ensures rest { (lane : ℕ) → result.1 ≤ lane → lane < self.old.setup.lanes → LaneRests (scene self.new (C.bytes memory.new)) lane }
         ensures setup { self.new.setup ≡ self.old.setup }
         ensures len { length (C.bytes memory.new) ≡ length (C.bytes memory.old) }
     {
+        let count = self.lanes();
         let mut done: u64 = 0;
-        let mut lane = self.next_busy(0, memory);
-        while lane < self.lanes() {
+        let mut upto = 0;
+        let mut lane = self.next_busy(0, count, memory);
+        while lane < count {
             if done >= most {
-                return Worked::so_far(done);
+                return (Worked::so_far(done), count);
             }
             let pass = self.serve_busy(alloc, lane, most - done, memory);
             let stopped = pass.has_stopped();
             let whole = Worked::after(done, pass);
             if stopped {
-                return whole;
+                return (whole, count);
             }
+            let some = whole.done > done;
             done = whole.done;
-            lane = self.next_busy(lane + 1, memory);
+            let next = self.next_busy(lane + 1, count, memory);
+            if some {
+                upto = lane + 1;
+            }
+            lane = next;
         }
-        Worked::so_far(done)
+        (Worked::so_far(done), upto)
     }
 
-    // The first lane, from that number on, of which something may be due; how many there are, where that is none.
-    fn next_busy<C: MemoryCell>(&self, from: u8, memory: &[C]) -> u8
+    // The first lane, from that number on and below number `to`, of which something may be due; `to` where that is none.
+    fn next_busy<C: MemoryCell>(&self, from: u8, to: u8, memory: &[C]) -> u8
         requires { length (C.bytes memory.now) ≡ self.now.setup.host_bytes }
         ensures passed { (lane : ℕ) → from ≤ lane → lane < result → LaneRests (scene self.now (C.bytes memory.now)) lane }
-        ensures on { result < self.now.setup.lanes → from ≤ result }
+        ensures on { result < to → from ≤ result }
     {
-        self.front.next_busy(&self.layout, from, self.lanes, memory)
+        let mut lane = self.front.next_busy(&self.layout, from, to, memory);
+        while lane < to {
+            if !self.rests(lane, memory) {
+                return lane;
+            }
+            lane = self.front.next_busy(&self.layout, lane + 1, to, memory);
+        }
+        lane
+    }
+
+    // Whether nothing is due of a lane some of whose commands have ended, since these wait for room in their guests' completion queues.
+    #[inline(always)]
+    fn rests<C: MemoryCell>(&self, lane: u8, memory: &[C]) -> bool
+        requires { length (C.bytes memory.now) ≡ self.now.setup.host_bytes }
+        ensures { IsTrue result → LaneRests (scene self.now (C.bytes memory.now)) lane }
+    {
+        if self.front.ended(lane).pop().is_none() {
+            return false;
+        }
+        self.only_holds(lane, memory)
+    }
+
+    // The same, whether or not some have ended.
+    #[inline(never)]
+    fn only_holds<C: MemoryCell>(&self, lane: u8, memory: &[C]) -> bool
+        requires { length (C.bytes memory.now) ≡ self.now.setup.host_bytes }
+        ensures { IsTrue result → LaneRests (scene self.now (C.bytes memory.now)) lane }
+    {
+        if self.reap_due(lane, memory) {
+            return false;
+        }
+        let mut taken = self.front.taken(lane);
+        let waiting = taken.pop();
+        if waiting.is_some() {
+            return false;
+        }
+        let mut left = self.front.ended(lane);
+        while let Some(tag) = left.pop() {
+            let mut held = self.held_with(lane, tag);
+            let lowest = held.pop();
+            if lowest.is_none() {
+                return false;
+            }
+            left.drop_all(held);
+        }
+        true
     }
 
     // A lane's round, and then its commands that wait for their plans. These have 64 events at most, and the lists of the last as many more as `most` allows.
@@ -223,12 +323,13 @@ impl HostMediator {
         ensures setup { self.new.setup ≡ self.old.setup }
         ensures len { length (C.bytes memory.new) ≡ length (C.bytes memory.old) }
     {
+        let earlier = self.front.ended(lane).pop();
         let read = self.reap_each(lane, most, memory);
         if read.ends(most) {
             return read;
         }
         let done = read.done;
-        let posted = self.post_each(lane, most - done, memory);
+        let posted = self.post_each(lane, earlier, most - done, memory);
         Worked::after(done, posted)
     }
 
@@ -275,8 +376,15 @@ impl HostMediator {
         }
     }
 
-    // Completes the commands of a lane that have ended. Where one waits for room in its guest's completion queue, those of the same queue are passed by.
-    fn post_each<C: MemoryCell>(&mut self, lane: u8, most: u64, memory: &mut [C]) -> Worked
+    // Completes the commands of a lane that have ended, where the lowest of those that had ended `earlier` is this. Where one waits for room in its guest's
+    // completion queue, those of the same queue are passed by.
+    fn post_each<C: MemoryCell>(
+        &mut self,
+        lane: u8,
+        earlier: Option<u8>,
+        most: u64,
+        memory: &mut [C],
+    ) -> Worked
         requires some { 0 < most }
         requires lent { length (C.bytes memory.old) ≡ self.old.setup.host_bytes }
         ensures pass { let old = scene self.old (C.bytes memory.old) in
@@ -285,41 +393,51 @@ impl HostMediator {
         ensures len { length (C.bytes memory.new) ≡ length (C.bytes memory.old) }
     {
         let mut done: u64 = 0;
-        let mut ended = self.front.ended(lane);
+        let mut ended = self.to_post(lane, earlier);
         while let Some(tag) = ended.pop() {
             if done >= most {
                 return Worked::so_far(done);
             }
-            let more = self.post_one(lane, tag, memory);
-            done += more;
-            if more == 0 {
+            let posted = self.has_posted(lane, tag, memory);
+            if posted {
+                done += 1;
+            } else {
                 ended.drop_all(self.held_with(lane, tag));
             }
         }
         Worked::so_far(done)
     }
 
-    // The tags of a lane that are of the same queue as this one, where its guest's completion queue has no room: none of their commands may be completed.
+    // The tags of a lane whose commands have ended, but for those that wait for room with one of an `earlier` time.
+    fn to_post(&self, lane: u8, earlier: Option<u8>) -> Group
+        ensures { (memory : List ℕ) (tag : ℕ) → list_any (λ t. t == tag) result ≡ false → NotDue (scene self.now memory) (Event.Post lane tag) }
+    {
+        let mut ended = self.front.ended(lane);
+        if let Some(tag) = earlier {
+            ended.drop_all(self.held_with(lane, tag));
+        }
+        ended
+    }
+
+    // The tags of a lane that are of the same queue as this one, where its guest's completion queue has no room: none of their commands may be completed,
+    // and where there is one of them, this one's may not.
     fn held_with(&self, lane: u8, tag: u8) -> Group
-        ensures { (memory : List ℕ) (other : ℕ) → list_any (λ t. t == other) result ≡ true → NotDue (scene self.now memory) (Event.Post lane other) }
+        ensures others { (memory : List ℕ) (other : ℕ) → list_any (λ t. t == other) result ≡ true → NotDue (scene self.now memory) (Event.Post lane other) }
+        ensures own { (memory : List ℕ) → (result ≡ [] → ⊥) → NotDue (scene self.now memory) (Event.Post lane tag) }
     {
         self.front.held_with(lane, tag)
     }
 
-    // Completes the command that goes by a tag where it has ended; how many events that were, one or none.
-    fn post_one<C: MemoryCell>(&mut self, lane: u8, tag: u8, memory: &mut [C]) -> u64
+    // Completes the command that goes by a tag, where that is due; whether it was.
+    fn has_posted<C: MemoryCell>(&mut self, lane: u8, tag: u8, memory: &mut [C]) -> bool
         requires { length (C.bytes memory.old) ≡ self.old.setup.host_bytes }
-        ensures leads { Leads (Scope.Lane lane) result (scene self.old (C.bytes memory.old)) (scene self.new (C.bytes memory.new)) }
-        ensures few { result ≤ 1 }
-        ensures none { result ≡ 0 → NotDue (scene self.old (C.bytes memory.old)) (Event.Post lane tag) }
+        ensures yes { IsTrue result → Leads (Scope.Lane lane) 1 (scene self.old (C.bytes memory.old)) (scene self.new (C.bytes memory.new)) }
+        ensures no { result ≡ false → (scene self.new (C.bytes memory.new) ≡ scene self.old (C.bytes memory.old))
+            × NotDue (scene self.old (C.bytes memory.old)) (Event.Post lane tag) }
         ensures setup { self.new.setup ≡ self.old.setup }
         ensures len { length (C.bytes memory.new) ≡ length (C.bytes memory.old) }
     {
-        if self.post_due(lane, tag) {
-            let _done = self.post(lane, tag, memory);
-            return 1;
-        }
-        0
+        is_done(&self.post(lane, tag, memory))
     }
 
     // A guest's round: its commands that wait for their plans, its admin commands, and those that may be taken. It has `turn` events, and the lists of its

@@ -1,32 +1,52 @@
-use Rattle.std.proofs.Common.{◌≡◌, ℕ, List, [], false, slice_get, subst, ap, arith}
-use Rattle.nv_core.specs.Reaping.{waits_in}
-use Rattle.nv_core.specs.Tags.{ended_in, taken_in}
+use Rattle.std.proofs.Common.{◌≡◌, ◌∙◌, ◌≤◌, ◌<◌, ℕ, List, inl, inr, subst, sym, arith}
+use Rattle.std.proofs.lemmas.Bool.{cases_eq, cases_lt}
 use Rattle.nv_host.proofs.Calls.{served-lent}
 use Rattle.nv_host.proofs.Made.{made}
-use Rattle.nv_host.proofs.Marked.{no-news, no-part-taken, not-taken}
-use Rattle.nv_host.specs.Served.{Served}
+use Rattle.nv_host.proofs.Marked.{passed-rests}
+use Rattle.nv_host.specs.Passes.{LaneRests}
 use Rattle.nv_host.specs.Work.{scene}
-use Rattle.nv_tags.proofs.Rows.{is_among}
 use Rattle.nv_host.proofs.host_mediator.HostMediator.next_busy.Goals as goal
 
-pub next_busy-requires : goal.next_busy-requires
-next_busy-requires g c =
+pub next_busy-lane-requires : goal.next_busy-lane-requires
+next_busy-lane-requires g c =
     let h = made c.self.inside.host_bytes c.self.inside.lanes c.self.inside.layout c.self.inside.front c.self.inside.closed.items c.self.inside.spare.items in
     served-lent h c.args.self.now c.self.view_is c.self.invariant (g.C.MemoryCell.bytes c.args.memory.now) c.requires
 
-pub returns-clause-passed : goal.returns-clause-passed
-returns-clause-passed g c = λ lane from below.
-    let memory : List ℕ = g.C.MemoryCell.bytes c.args.memory.now in
-    let none = subst
-    (λ (x : Served).
-    (waits_in x.setup.geometry lane (slice_get x.side.lanes lane) memory ≡ false) × (ended_in (slice_get x.side.lanes lane) ≡ [])
-    × (taken_in (slice_get x.side.lanes lane) ≡ []))
-    c.self.view_is (no-part-taken _ _ _ (c.next_busy.ensures.passed lane from below)) in (
-      no-news (scene c.args.self.now memory) lane none.0 none.1,
-      λ tag. not-taken (scene c.args.self.now memory) lane tag (ap (λ (xs : List ℕ). is_among xs tag) none.2),
-    )
+pub next_busy-lane-requires-in-loop-lane : goal.next_busy-lane-requires-in-loop-lane
+next_busy-lane-requires-in-loop-lane g c =
+    let h = made c.self.inside.host_bytes c.self.inside.lanes c.self.inside.layout c.self.inside.front c.self.inside.closed.items c.self.inside.spare.items in
+    served-lent h c.args.self.now c.self.view_is c.self.invariant (g.C.MemoryCell.bytes c.args.memory.now) c.requires
 
-pub returns-clause-on : goal.returns-clause-on
-returns-clause-on g c = λ less.
-    let same = ap (λ (x : Served). x.setup.lanes) c.self.view_is in
-    (c.next_busy.ensures.here (omega (arith, less, same))).0
+pub loop-lane-init : goal.loop-lane-init
+loop-lane-init g c =
+    let h = made c.self.inside.host_bytes c.self.inside.lanes c.self.inside.layout c.self.inside.front c.self.inside.closed.items c.self.inside.spare.items in
+    let memory : List ℕ = g.C.MemoryCell.bytes c.args.memory.now in
+    record {
+      from = λ less. (c.next_busy-lane.ensures.here less).0;
+      passed = λ lane from below. passed-rests h c.args.self.now c.self.view_is memory lane (c.next_busy-lane.ensures.passed lane from below);
+    }
+
+pub loop-lane-preserved : goal.loop-lane-preserved
+loop-lane-preserved g c =
+    let h = made c.self.inside.host_bytes c.self.inside.lanes c.self.inside.layout c.self.inside.front c.self.inside.closed.items c.self.inside.spare.items in
+    let memory : List ℕ = g.C.MemoryCell.bytes c.args.memory.now in
+    let low = c.loop-lane.invariant.from c.loop-lane-test.true in
+    record {
+      from = λ less. (let more = (c.next_busy-lane-in-loop-lane.ensures.here less).0 in omega (arith, more, low));
+      passed = λ lane from below.
+          elim (cases_lt lane c.loop-lane.lane) [
+            | inl before ↦ c.loop-lane.invariant.passed lane from before
+            | inr after ↦ elim (cases_eq lane c.loop-lane.lane) [
+              | inl here ↦ subst (LaneRests (scene c.args.self.now memory)) (sym here) (c.rests.ensures c.if-not-rests.false)
+              | inr other ↦ passed-rests h c.args.self.now c.self.view_is memory lane (c.next_busy-lane-in-loop-lane.ensures.passed lane (omega (arith, after, other)) below)
+            ]
+          ];
+    }
+
+pub loop-lane-smaller : goal.loop-lane-smaller
+loop-lane-smaller g c =
+    let test = c.loop-lane-test.true in
+    elim (cases_lt c.next_busy-lane-in-loop-lane.result c.args.to) [
+      | inl less ↦ (let more = (c.next_busy-lane-in-loop-lane.ensures.here less).0 in omega (arith, more, test))
+      | inr past ↦ omega (arith, past, test)
+    ]
