@@ -41,7 +41,7 @@ impl HostMediator {
     /// A completion that names no command ends the call ([`Why::Stray`]): the host stops the drive, and closes the lane by [`HostMediator::close`].
     /// Nothing is taken for a lane that was closed. The host then writes its doorbells, from [`HostMediator::tail`] and [`HostMediator::head`].
     ///
-    /// Each call begins with the first lane, so whoever asks for few events at a time asks by the scopes in turn.
+    /// Each call begins with the first guest and with the first lane, so whoever asks for few events at a time asks by the scopes in turn.
     pub fn work<C: MemoryCell>(
         &mut self,
         alloc: Global,
@@ -408,7 +408,7 @@ impl HostMediator {
         Worked::so_far(done)
     }
 
-    // The tags of a lane whose commands have ended, but for those that wait for room with one of an `earlier` time.
+    // The tags of a lane whose commands have ended, but for those that wait for room with this one, which had ended `earlier`.
     fn to_post(&self, lane: u8, earlier: Option<u8>) -> Group
         ensures { (memory : List ℕ) (tag : ℕ) → list_any (λ t. t == tag) result ≡ false → NotDue (scene self.now memory) (Event.Post lane tag) }
     {
