@@ -5,7 +5,7 @@ use crate::desk::{Desk, Form};
 use crate::rounds::{FLUSH, brought_up, queue};
 use crate::two_guests::{GUESTS, desk};
 use nv_bringup::{
-    ADMIN_SUBMISSIONS, ADMIN_TAIL, BRING_UP, COMPLETIONS, CREATE_COMPLETION_QUEUE,
+    ADMIN_SUBMISSIONS, ADMIN_TAIL, BRING_UP, CC, COMPLETIONS, CREATE_COMPLETION_QUEUE,
     CREATE_SUBMISSION_QUEUE, Deed, Fields, HEAD, SLOTS, SUBMISSIONS, TAIL, act_of,
 };
 use nv_entry::{Cqe, StatusCode};
@@ -433,4 +433,27 @@ fn a_stray_completion_ends_the_call(rt: HostRuntime) {
         (bench.mediator().tail(0), bench.mediator().tail(1)),
         (Some(0), Some(1))
     );
+}
+
+/// Commands of the first guest wait for room when it resets its controller: they run out, and the other guest's are completed before and after.
+#[test]
+fn commands_that_wait_run_out_at_a_reset(rt: HostRuntime) {
+    let mut shop = opened(&rt, rt.alloc(), Way::All);
+    for _ in 0..SLOTS - 1 {
+        assert!(rt; shop.enters(0, flush()));
+    }
+    assert!(rt; shop.goes_round(&rt) > 0);
+    enters_three(&rt, &mut shop);
+    shop.drives_all();
+    // The three are reaped, and none is posted.
+    assert_eq!(rt; shop.works(), (3, true));
+    assert!(rt; shop.enters(1, flush()));
+    assert_eq!(rt; shop.goes_round(&rt), 4);
+    assert!(rt; shop.was_completed(1, 1, 1));
+    assert!(rt; shop.does(0, &Deed::Register(CC, 0)));
+    assert_eq!(rt; shop.works(), (3, true));
+    assert!(rt; shop.enters(1, flush()));
+    assert_eq!(rt; shop.goes_round(&rt), 4);
+    assert!(rt; shop.was_completed(1, 2, 2));
+    assert!(rt; !shop.was_completed(0, SLOTS, SLOTS));
 }

@@ -4,8 +4,8 @@ use Rattle.nv_core.proofs.Dues.{due-by}
 use Rattle.nv_core.proofs.GroupTags.{lane-where, numbers-from}
 use Rattle.nv_core.proofs.TagLists.{made-at}
 use Rattle.nv_core.specs.Front.{IsSideOf, Side}
-use Rattle.nv_core.specs.FullQueues.{AreWaiting, IsFull, NoneWait, from_in, is_from, origin_by, origin_in}
-use Rattle.nv_core.specs.Tags.{IsUsed, IsWhole, tag_made, tags_of}
+use Rattle.nv_core.specs.FullQueues.{AreHeldWith, AreWaiting, IsFull, NoneWait, from_in, is_from, origin_by, origin_in}
+use Rattle.nv_core.specs.Tags.{IsUsed, command_at, IsWhole, tag_made, tags_of}
 use Rattle.nv_core.specs.declared.full.Origin.{Origin}
 use Rattle.nv_core.specs.declared.progress.Progress.{Progress}
 use Rattle.nv_entry.specs.Status.{StatusField}
@@ -51,7 +51,7 @@ abbrev test_at : (Tag → Bool) → Option Tag → Bool
 test_at test None = false
 test_at test (Some t) = test t
 
-among-test : (test : Tag → Bool) (tags : List Tag) (k : ℕ) (t : Tag) → is_among (tags_where test tags) k ≡ true → slice_get tags k ≡ Some t → test t ≡ true
+pub among-test : (test : Tag → Bool) (tags : List Tag) (k : ℕ) (t : Tag) → is_among (tags_where test tags) k ≡ true → slice_get tags k ≡ Some t → test t ≡ true
 among-test test tags k t among there =
     let below = slice_get-below tags k t there in
     let rows : tags_where test tags ≡ holding (λ i. test_at test (slice_get tags i)) 0 (length tags) =
@@ -162,3 +162,33 @@ all-waiting side lane tag here there o origin tags are = λ l command at used fu
     some-same o (origin_by command)
     (sym origin ∙ ap (λ (x : Lane). origin_in (slice_get x.tags tag)) (sym same) ∙ ap (λ (t : Option Command). option_map origin_by t) used) in
     are ∙ ap (λ (x : Origin). from_in x.guest x.queue here) from ∙ ap (λ (x : Lane). from_in command.guest command.queue x) (sym same)
+
+-- each that waits with one is of the same guest
+by-command : (guest queue : ℕ) (its command : Command) → (its.guest == guest ≡ true) × (its.queue == queue ≡ true) → ◌≡◌ {A = Option Command} (Some its) (Some command)
+    → (command.guest ≡ guest) × (command.queue ≡ queue)
+by-command guest queue its command both is =
+    (let same = some-same its command is in
+    (ap (λ (x : Command). x.guest) (sym same) ∙ eqb-true its.guest guest both.0, ap (λ (x : Command). x.queue) (sym same) ∙ eqb-true its.queue queue both.1))
+
+command-from : (guest queue : ℕ) (t : Option Tag) (command : Command) → command_at t ≡ Some command → ((u : Tag) → t ≡ Some u → is_from guest queue u ≡ true)
+    → (command.guest ≡ guest) × (command.queue ≡ queue)
+command-from guest queue None command is from = cc
+command-from guest queue (Some Free) command is from = cc
+command-from guest queue (Some (Taken its reads)) command is from = (let both = and-true _ _ (from (Taken its reads) refl) in by-command guest queue its command both is)
+command-from guest queue (Some (Flying its share at)) command is from = (let both = and-true _ _ (from (Flying its share at) refl) in by-command guest queue its command both is)
+command-from guest queue (Some (Ended its st share)) command is from = (let both = and-true _ _ (from (Ended its st share) refl) in by-command guest queue its command both is)
+
+pub held-with : (side : Side) (lane tag : ℕ) (here : Lane) → slice_get side.lanes lane ≡ Some here → (o : Origin)
+    → origin_in (slice_get here.tags tag) ≡ Some o → IsFull o.guest o.queue side → (tags : List ℕ) → tags ≡ from_in o.guest o.queue here
+    → AreHeldWith lane tag side tags
+held-with side lane tag here there o origin full tags are = λ l other mine their at among mine_at their_at.
+    let same : here ≡ l = some-same here l (sym there ∙ at) in
+    let from : o ≡ origin_by mine =
+    some-same o (origin_by mine)
+    (sym origin ∙ ap (λ (x : Lane). origin_in (slice_get x.tags tag)) same ∙ ap (λ (t : Option Command). option_map origin_by t) mine_at) in
+    let is = command-from o.guest o.queue (slice_get l.tags other) their their_at
+    (λ u u_at. among-test (is_from o.guest o.queue) l.tags other u
+    (sym (ap (λ (xs : List ℕ). is_among xs other) (are ∙ ap (λ (x : Lane). from_in o.guest o.queue x) same)) ∙ among) u_at) in (
+      is.0 ∙ ap (λ (x : Origin). x.guest) from,
+      subst (λ (n : ℕ). IsFull n their.queue side) (sym is.0) (subst (λ (n : ℕ). IsFull o.guest n side) (sym is.1) full),
+    )

@@ -1,5 +1,6 @@
 -- Commands by the queue that they were taken from, and queues of a guest that are full (profile).
 use Rattle.std.specs.Prelude.{◌≡◌, ℕ, ◌<◌, ◌≤◌, ◌==◌, ◌&&◌, Bool, true, false, List, [], slice_get, Option, Some, None, option_map}
+use Rattle.std.specs.List.{list_any}
 use Rattle.nv_core.specs.Front.{Side}
 use Rattle.nv_core.specs.Tags.{command_at}
 use Rattle.nv_core.specs.declared.full.Origin.{Origin}
@@ -45,3 +46,10 @@ AreWaiting lane tag side tags = (l : Lane) (command : Command) → slice_get sid
 abbrev pub NoneWait : (lane tag : ℕ) → Side → (tags : List ℕ) → Type 0
 NoneWait lane tag side tags = (l : Lane) (command : Command) → slice_get side.lanes lane ≡ Some l
     → command_at (slice_get l.tags tag) ≡ Some command → (IsFull command.guest command.queue side → ⊥) → tags ≡ []
+
+-- each of them is of the same guest, and its queue is full
+abbrev pub AreHeldWith : (lane tag : ℕ) → Side → (tags : List ℕ) → Type 0
+AreHeldWith lane tag side tags = (l : Lane) (other : ℕ) (mine their : Command) → slice_get side.lanes lane ≡ Some l
+    → list_any (λ t. t == other) tags ≡ true
+    → command_at (slice_get l.tags tag) ≡ Some mine → command_at (slice_get l.tags other) ≡ Some their
+    → (their.guest ≡ mine.guest) × IsFull their.guest their.queue side

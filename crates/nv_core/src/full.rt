@@ -3,7 +3,7 @@
 ghost use Rattle.std.specs.Prelude.{◌≡◌, ◌<◌, ◌==◌, ℕ, List, Some, false, is_some, slice_get, true};
 ghost use Rattle.std.specs.List.{list_any};
 ghost use Rattle.nv_core.specs.Front.{IsSideOf};
-ghost use Rattle.nv_core.specs.FullQueues.{AreWaiting, IsFull, NoneWait, from_in, origin_by, origin_in};
+ghost use Rattle.nv_core.specs.FullQueues.{AreHeldWith, AreWaiting, IsFull, NoneWait, from_in, origin_by, origin_in};
 ghost use Rattle.nv_core.specs.Tags.{command_at};
 ghost use Rattle.nv_tags.specs.Numbers.{number_count};
 ghost use Rattle.nv_world_model.specs.Due.{due};
@@ -33,6 +33,7 @@ impl Front {
     pub fn held_with(&self, lane: u8, tag: u8) -> Group
         ensures all { AreWaiting lane tag self.now result }
         ensures none { NoneWait lane tag self.now result }
+        ensures full { AreHeldWith lane tag self.now result }
         ensures rest { (layout : Geometry) (other : ℕ) (memory : List ℕ) (w : World) → list_any (λ t. t == other) result ≡ true → IsSideOf self.now memory w →
             due layout (Event.Post lane other) w ≡ false }
     {

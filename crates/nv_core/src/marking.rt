@@ -3,7 +3,7 @@
 ghost use Rattle.std.specs.Prelude.{◌≡◌, ◌<◌, slice_get};
 ghost use Rattle.nv_core.specs.Held.{held_in};
 ghost use Rattle.nv_core.specs.Kept.{IsLent};
-ghost use Rattle.nv_core.specs.News.{has_news, is_busy};
+ghost use Rattle.nv_core.specs.News.{has_news, is_busy, tags_at};
 ghost use Rattle.nv_core.specs.Tags.{ended_in, flying_in, taken_in};
 ghost use Rattle.nv_vctl.specs.Next.{IsNext};
 ghost use Rattle.nv_world_model.specs.SetUp.{most_guests};
@@ -39,28 +39,37 @@ impl Front {
         self.reap_due(layout, lane, host)
     }
 
-    // The same, or whether some command waits for its plan.
+    // Whether some command of a lane waits for its plan, some part has ended that is none of these, or a completion of the physical controller waits.
     #[inline(always)]
-    fn is_busy<C: MemoryCell>(&self, layout: &Layout, lane: u8, host: &[C]) -> bool
+    fn is_busy<C: MemoryCell>(&self, layout: &Layout, lane: u8, held: &[u64], host: &[C]) -> bool
         requires { IsLent layout.now self.now (C.bytes host.now) }
-        ensures { result ≡ is_busy layout.now lane (slice_get self.now.lanes lane) (C.bytes host.now) }
+        ensures { result ≡ is_busy layout.now lane (slice_get self.now.lanes lane) (tags_at held.now lane) (C.bytes host.now) }
     {
         let mut taken = self.taken(lane);
         if taken.pop().is_some() {
             return true;
         }
-        self.has_news(layout, lane, host)
+        let mut ended = self.ended(lane);
+        ended.drop_all(tags_at(held, lane));
+        ended.pop().is_some() || self.reap_due(layout, lane, host)
     }
 
-    /// The first lane, from number `from` on and below number `to`, of which something may be due: a command waits for its plan, some part has ended, or a
-    /// completion of the physical controller waits. It is `to` where that is none of them.
+    /// The first lane, from number `from` on and below number `to`, of which something may be due: a command waits for its plan, some part has ended that
+    /// is none of those `held` of its lane, or a completion of the physical controller waits. It is `to` where that is none of them.
     #[inline(never)]
-    pub fn next_busy<C: MemoryCell>(&self, layout: &Layout, from: u8, to: u8, host: &[C]) -> u8
+    pub fn next_busy<C: MemoryCell>(
+        &self,
+        layout: &Layout,
+        from: u8,
+        to: u8,
+        held: &[u64],
+        host: &[C],
+    ) -> u8
         requires { IsLent layout.now self.now (C.bytes host.now) }
-        ensures { IsNext (λ lane. is_busy layout.now lane (slice_get self.now.lanes lane) (C.bytes host.now)) from to result }
+        ensures { IsNext (λ lane. is_busy layout.now lane (slice_get self.now.lanes lane) (tags_at held.now lane) (C.bytes host.now)) from to result }
     {
         for lane in from..to {
-            if self.is_busy(layout, lane, host) {
+            if self.is_busy(layout, lane, held, host) {
                 return lane;
             }
         }
@@ -103,4 +112,16 @@ impl Front {
         }
         self.lanes[at].held_by(guest)
     }
+}
+
+// The tags of a lane, where there is a mask of each lane's; none where there is none of that one.
+#[inline(always)]
+fn tags_at(masks: &[u64], lane: u8) -> Group
+    ensures { result ≡ tags_at masks.now lane }
+{
+    let at = usize::from(lane);
+    if at >= masks.len() {
+        return Group::of(0);
+    }
+    Group::of(masks[at])
 }

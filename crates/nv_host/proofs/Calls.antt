@@ -83,7 +83,7 @@ module _ (h : Served) (e : Event) (new : Side) (before after : List ℕ) (r : Re
       (many ∙ ap (λ (ts : List ℕ). length ts) (sym (own-side h.side before).tails) ∙ length-tails own.device)
 
   -- where the reply reports nothing, nothing has changed
-  side-dull : is_telling r ≡ false → new ≡ h.side
+  pub side-dull : is_telling r ≡ false → new ≡ h.side
   side-dull quiet =
       ap (λ (ls : List Lane). let x : Side = record { lanes = ls; tails = new.tails; controllers = new.controllers } in x) (ap (λ (w : World). w.lanes) (still quiet))
       ∙ ap (λ (ts : List ℕ). let x : Side = record { lanes = h.side.lanes; tails = ts; controllers = new.controllers } in x)

@@ -4,9 +4,12 @@ pub mod Closes
 pub mod Dues
 pub mod Failed
 pub mod Fails
+pub mod EventWalks
 pub mod Failures
 pub mod HeldEvents
 pub mod HeldLanes
+pub mod HoldEvents
+pub mod HoldNotes
 pub mod InRow
 pub mod GivenUp
 pub mod ListJobs

@@ -1,20 +1,18 @@
 -- Tags that are not among those at a point: none of their commands waits for its plan, or has ended.
-use Rattle.std.proofs.Common.{◌≡◌, refl, sym, ap, subst, ◌∙◌, ℕ, zero, suc, ◌+◌, ◌||◌, ◌&&◌, ◌==◌, nat_lt, Bool, true, false, List, [], ◌∷◌, length, slice_get, Option, None, Some, arith}
+use Rattle.std.proofs.Common.{◌≡◌, refl, sym, ap, ◌∙◌, ℕ, zero, suc, ◌+◌, ◌||◌, ◌&&◌, ◌==◌, nat_lt, Bool, true, false, List, [], ◌∷◌, length, slice_get, Option, None, Some, arith}
 use Rattle.std.proofs.lemmas.Bool.{eq-eqb, lt-ltb}
 use Rattle.std.proofs.lemmas.Option.{none-some}
 use Rattle.nv_core.proofs.HeldTags.{in-front, numbers as numbered}
 use Rattle.nv_core.specs.Front.{Side}
-use Rattle.nv_core.specs.News.{is_busy}
-use Rattle.nv_core.specs.FullQueues.{AreWaiting, IsFull, NoneWait, is_from}
 use Rattle.nv_core.specs.Jobs.{holder_in, job_in}
-use Rattle.nv_core.specs.Tags.{command_at, ended_in, is_ended, is_taken, taken_in}
+use Rattle.nv_core.specs.Tags.{ended_in, is_ended, is_taken, taken_in}
 use Rattle.nv_core.specs.declared.holding.Holder.{Holder}
 use Rattle.nv_entry.specs.Status.{StatusField}
 use Rattle.nv_core.specs.Reaping.{waits_in}
 use Rattle.nv_host.proofs.Rests.{due-not, lane-rests, not-there, or-true, own-job, placed, true-false}
-use Rattle.nv_host.specs.Passes.{LaneRests, NoneWaitsAt, NothingWaitsAt}
+use Rattle.nv_host.specs.Passes.{NoneWaitsAt, NothingWaitsAt}
 use Rattle.nv_host.specs.Served.{Served}
-use Rattle.nv_host.specs.Work.{NotDue, Rests, Scene, scene}
+use Rattle.nv_host.specs.Work.{NotDue, Rests, Scene}
 use Rattle.nv_host.specs.declared.worked.Scope.TheVariants as scope
 use Rattle.nv_laws_sound.proofs.Lists.{some-same}
 use Rattle.nv_model.specs.declared.reply.Reply.TheVariants as reply
@@ -54,7 +52,7 @@ where-among test tags k t there holds =
     let number : k ≡ 0 + k = omega arith in
     ap (is_among (tags_where test tags)) number ∙ among-from test 0 tags k t there holds
 
-both-true : (a b : Bool) → a ≡ true → b ≡ true → a && b ≡ true
+pub both-true : (a b : Bool) → a ≡ true → b ≡ true → a && b ≡ true
 both-true true b one two = two
 both-true false b one two = cc
 
@@ -91,7 +89,7 @@ module _ (geometry : Geometry) (w : World) (lane tag : ℕ) where
       for_owner (owner_of geometry w command.guest) w (λ (o : Owner).
       post_all (statuses_of lane (group w lane tag) w) command geometry.mediator lane (group w lane tag) o w))
 
-  post-unended : (t : Option Tag) → tag_of w lane tag ≡ t → ((command : Command) (st : StatusField) (share : Option Share) → t ≡ Some (Ended command st share) → ⊥)
+  pub post-unended : (t : Option Tag) → tag_of w lane tag ≡ t → ((command : Command) (st : StatusField) (share : Option Share) → t ≡ Some (Ended command st share) → ⊥)
       → due geometry (event.Post lane tag) w ≡ false
   unfolding step
   post-unended None at never = due-not geometry (event.Post lane tag) w (replied reply.Ignored w) (ap post_by_tag at) refl
@@ -133,52 +131,11 @@ module _ (s : Scene) (lane tag : ℕ) where
   not-ended out w on is =
       (not-there s w (event.Post lane tag) tt on (post-not_ended s.served.setup.geometry (placed s w) lane tag out) is.1)
 
-  -- a command that waits for room with some others, or alone: what is said of all of these is said of it
-  pub held-own : (tags : List ℕ) → AreWaiting lane tag s.served.side tags → NoneWait lane tag s.served.side tags
-      → (is_among tags tag ≡ true → NotDue s (event.Post lane tag)) → (tags ≡ [] → ⊥) → NotDue s (event.Post lane tag)
-  held-own tags all none rest some = by_lane here refl
-    where
-      by_command : (l : Lane) (t : Tag) → here ≡ Some l → slice_get l.tags tag ≡ Some t → (command : Command) → command_at (Some t) ≡ Some command
-          → ((guest queue : ℕ) → command.guest ≡ guest → command.queue ≡ queue → is_from guest queue t ≡ true) → NotDue s (event.Post lane tag)
-      by_command l t there at command used from w on is =
-          (let full : IsFull command.guest command.queue s.served.side → ⊥ = λ f.
-          rest
-          (ap (λ (xs : List ℕ). is_among xs tag) (all l command there (ap command_at at ∙ used) f)
-          ∙ where-among (is_from command.guest command.queue) l.tags tag t at (from command.guest command.queue refl refl)) w on is in
-          some (none l command there (ap command_at at ∙ used) full))
-
-      by_lane : (o : Option Lane) → here ≡ o → NotDue s (event.Post lane tag)
-      by_lane None there = not-ended (ap (λ (x : Option Lane). is_among (ended_in x) tag) there)
-      by_lane (Some l) there = by_tag (slice_get l.tags tag) refl
-        where
-          unended : (o : Option Tag) → slice_get l.tags tag ≡ o → ((command : Command) (st : StatusField) (share : Option Share) → o ≡ Some (Ended command st share) → ⊥)
-              → NotDue s (event.Post lane tag)
-          unended o at never w on is =
-              not-there s w (event.Post lane tag) tt on
-              (post-unended s.served.setup.geometry (placed s w) lane tag o (ap (λ (x : Option Lane). tag_in x tag) there ∙ at) never) is.1
-
-          by_tag : (o : Option Tag) → slice_get l.tags tag ≡ o → NotDue s (event.Post lane tag)
-          by_tag None at = unended None at (λ command st share e. cc)
-          by_tag (Some Free) at = unended (Some Free) at (λ command st share e. cc)
-          by_tag (Some (Taken command reads)) at = unended (Some (Taken command reads)) at (λ command st share e. cc)
-          by_tag (Some (Flying command share standing)) at = unended (Some (Flying command share standing)) at (λ command st share e. cc)
-          by_tag (Some (Ended command st share)) at =
-              by_command l (Ended command st share) there at command refl
-              (λ guest queue one two. both-true (command.guest == guest) (command.queue == queue) (eq-eqb command.guest guest one) (eq-eqb command.queue queue two))
-
 -- what has no news has neither
 pub no-part : (ended : List ℕ) (waits : Bool) → (nat_lt 0 (length ended) || waits) ≡ false → (waits ≡ false) × (ended ≡ [])
 no-part [] waits none = (none, refl)
 no-part (tag ∷ tags) waits none =
     absurd (true-false (nat_lt 0 (length (tag ∷ tags)) || waits) (ap (λ (b : Bool). b || waits) (lt-ltb 0 (length (tag ∷ tags)) (omega arith))) none)
-
--- what is not busy has no news, and no command that waits
-pub no-part-taken : (taken ended : List ℕ) (waits : Bool) → (nat_lt 0 (length taken) || (nat_lt 0 (length ended) || waits)) ≡ false
-    → (waits ≡ false) × (ended ≡ []) × (taken ≡ [])
-no-part-taken [] ended waits none = (let rest = no-part ended waits none in (rest.0, rest.1, refl))
-no-part-taken (tag ∷ tags) ended waits none =
-    absurd (true-false (nat_lt 0 (length (tag ∷ tags)) || (nat_lt 0 (length ended) || waits))
-    (ap (λ (b : Bool). b || (nat_lt 0 (length ended) || waits)) (lt-ltb 0 (length (tag ∷ tags)) (omega arith))) none)
 
 -- a lane where no completion waits, and no part has ended
 pub no-news : (s : Scene) (lane : ℕ) → waits_in s.served.setup.geometry lane (slice_get s.served.side.lanes lane) s.memory ≡ false
@@ -186,11 +143,3 @@ pub no-news : (s : Scene) (lane : ℕ) → waits_in s.served.setup.geometry lane
 no-news s lane none ended =
     lane-rests s lane (λ w on is. true-false (waits_in s.served.setup.geometry lane (slice_get s.served.side.lanes lane) s.memory) is none)
     (λ tag. not-ended s lane tag (ap (λ (xs : List ℕ). is_among xs tag) ended))
-
--- a lane that the front passes by
-pub passed-rests : (h o : Served) → h ≡ o → (memory : List ℕ) (lane : ℕ) → is_busy h.setup.geometry lane (slice_get h.side.lanes lane) memory ≡ false
-    → LaneRests (scene o memory) lane
-passed-rests h o view memory lane idle =
-    subst (λ (x : Served). LaneRests (scene x memory) lane) view
-    (let none = no-part-taken _ _ _ idle in
-    (no-news (scene h memory) lane none.0 none.1, λ tag. not-taken (scene h memory) lane tag (ap (λ (xs : List ℕ). is_among xs tag) none.2)))

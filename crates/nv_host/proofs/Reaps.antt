@@ -12,7 +12,10 @@ use Rattle.nv_host.proofs.Runs.{lead-step}
 use Rattle.nv_host.specs.Closing.{Reads}
 use Rattle.nv_host.specs.Ending.{IsRun}
 use Rattle.nv_host.proofs.HeldEvents.{reaped-fewer}
+use Rattle.nv_host.proofs.HoldNotes.{held-same, reap-still}
+use Rattle.nv_host.specs.Holds.{AreHeld}
 use Rattle.nv_host.specs.Served.{AreGiven, IsNext, IsServed, IsUnreached, Served}
+use Rattle.nv_host.specs.declared.holds.Holds.{Holds}
 use Rattle.nv_laws_front.proofs.Reached.{call-reached}
 use Rattle.nv_laws_sound.proofs.CountedActs.{still-counted}
 use Rattle.nv_laws_sound.proofs.CountedEvents.{reaped-counted}
@@ -69,38 +72,46 @@ same-given e h new same guest a =
     let held = ap (λ (x : Side). held_in guest (slice_get x.lanes a)) same in
     omega (arith, held)
 
+-- a completion was read, or not
+reap-either : {E : Type 0} (P : Type 0) (result : Result Reply E) → (◌≡◌ {A = Result Reply E} result (Ok reply.Done) → P)
+    → ((◌≡◌ {A = Result Reply E} result (Ok reply.Done) → ⊥) → P) → P
+reap-either P (Ok reply.Done) read not = read refl
+reap-either P (Ok (reply.Bytes bytes)) read not = not (λ e. cc)
+reap-either P (Ok reply.Idle) read not = not (λ e. cc)
+reap-either P (Ok reply.Busy) read not = not (λ e. cc)
+reap-either P (Ok reply.Held) read not = not (λ e. cc)
+reap-either P (Ok reply.Stale) read not = not (λ e. cc)
+reap-either P (Ok reply.Unmapped) read not = not (λ e. cc)
+reap-either P (Ok reply.Ignored) read not = not (λ e. cc)
+reap-either P (Ok reply.NoMemory) read not = not (λ e. cc)
+reap-either P (Err x) read not = not (λ e. cc)
+
 -- one was, or nothing has changed
 module _ {E : Type 0} (h o : Served) (view : h ≡ o) (is : IsServed h) (lane : ℕ) (new : Side) (memory : List ℕ) (sized : length memory ≡ o.setup.host_bytes)
     (tails : new.tails ≡ h.side.tails) where
   pub reap-served : (result : Result Reply E) → (◌≡◌ {A = Result Reply E} result (Ok reply.Done) → lane < length h.side.lanes)
       → (◌≡◌ {A = Result Reply E} result (Ok reply.Done) → IsReaped h.setup.geometry lane h.side new memory)
       → ((◌≡◌ {A = Result Reply E} result (Ok reply.Done) → ⊥) → new ≡ h.side) → IsServed (serving h new)
-  reap-served (Ok reply.Done) below read same =
-      read-served h is lane new memory (served-lent h o view is memory sized) (below refl) (read refl) tails
-  reap-served (Ok (reply.Bytes bytes)) below read same = same-served h new is (same (λ e. cc))
-  reap-served (Ok reply.Idle) below read same = same-served h new is (same (λ e. cc))
-  reap-served (Ok reply.Busy) below read same = same-served h new is (same (λ e. cc))
-  reap-served (Ok reply.Held) below read same = same-served h new is (same (λ e. cc))
-  reap-served (Ok reply.Stale) below read same = same-served h new is (same (λ e. cc))
-  reap-served (Ok reply.Unmapped) below read same = same-served h new is (same (λ e. cc))
-  reap-served (Ok reply.Ignored) below read same = same-served h new is (same (λ e. cc))
-  reap-served (Ok reply.NoMemory) below read same = same-served h new is (same (λ e. cc))
-  reap-served (Err x) below read same = same-served h new is (same (λ e. cc))
+  reap-served result below read same =
+      reap-either (IsServed (serving h new)) result
+      (λ done. read-served h is lane new memory (served-lent h o view is memory sized) (below done) (read done) tails)
+      (λ not. same-served h new is (same not))
+
+  pub reap-held : (holds : Holds) → AreHeld h.side holds → (result : Result Reply E) → (◌≡◌ {A = Result Reply E} result (Ok reply.Done) → lane < length h.side.lanes)
+      → (◌≡◌ {A = Result Reply E} result (Ok reply.Done) → IsReaped h.setup.geometry lane h.side new memory)
+      → ((◌≡◌ {A = Result Reply E} result (Ok reply.Done) → ⊥) → new ≡ h.side) → AreHeld new holds
+  reap-held holds are result below read same =
+      reap-either (AreHeld new holds) result
+      (λ done. (let there = slice_get-there h.side.lanes lane (below done) in reap-still h holds are lane new memory there.0 there.1 (read done)))
+      (λ not. held-same h.side new holds (same not) are)
 
   pub reap-given : (result : Result Reply E) → (◌≡◌ {A = Result Reply E} result (Ok reply.Done) → lane < length h.side.lanes)
       → (◌≡◌ {A = Result Reply E} result (Ok reply.Done) → IsReaped h.setup.geometry lane h.side new memory)
       → ((◌≡◌ {A = Result Reply E} result (Ok reply.Done) → ⊥) → new ≡ h.side) → AreGiven (event.Reap lane) h (serving h new)
-  reap-given (Ok reply.Done) below read same =
-      read-given h is lane new memory (served-lent h o view is memory sized) (below refl) (read refl) tails
-  reap-given (Ok (reply.Bytes bytes)) below read same = same-given (event.Reap lane) h new (same (λ e. cc))
-  reap-given (Ok reply.Idle) below read same = same-given (event.Reap lane) h new (same (λ e. cc))
-  reap-given (Ok reply.Busy) below read same = same-given (event.Reap lane) h new (same (λ e. cc))
-  reap-given (Ok reply.Held) below read same = same-given (event.Reap lane) h new (same (λ e. cc))
-  reap-given (Ok reply.Stale) below read same = same-given (event.Reap lane) h new (same (λ e. cc))
-  reap-given (Ok reply.Unmapped) below read same = same-given (event.Reap lane) h new (same (λ e. cc))
-  reap-given (Ok reply.Ignored) below read same = same-given (event.Reap lane) h new (same (λ e. cc))
-  reap-given (Ok reply.NoMemory) below read same = same-given (event.Reap lane) h new (same (λ e. cc))
-  reap-given (Err x) below read same = same-given (event.Reap lane) h new (same (λ e. cc))
+  reap-given result below read same =
+      reap-either (AreGiven (event.Reap lane) h (serving h new)) result
+      (λ done. read-given h is lane new memory (served-lent h o view is memory sized) (below done) (read done) tails)
+      (λ not. same-given (event.Reap lane) h new (same not))
 
   -- it is the next event of each log that leads there
   pub reap-next : AreGiven (event.Reap lane) h (serving h new) → (result : Result Reply E) → IfOk result (λ r. (w : World) → IsBeside h.side memory w → IsLive h.setup.geometry w

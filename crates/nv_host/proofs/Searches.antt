@@ -1,10 +1,9 @@
 -- Passes over the tags of a group, one after another.
-use Rattle.std.proofs.Common.{◌≡◌, refl, sym, subst, ap, ◌∙◌, ℕ, ◌+◌, ◌-◌, ◌<◌, ◌≤◌, ◌||◌, ◌&&◌, ◌==◌, not, Bool, false, true, inl, inr, List, [], ◌∷◌, length, Option, None, Some, MatchOption, is_some, eqb-true, arith}
+use Rattle.std.proofs.Common.{◌≡◌, refl, sym, subst, ap, ◌∙◌, ℕ, ◌+◌, ◌-◌, ◌<◌, ◌≤◌, ◌||◌, ◌&&◌, ◌==◌, not, Bool, false, true, inl, inr, List, [], ◌∷◌, length, Option, None, Some, MatchOption, eqb-true, arith}
 use Rattle.std.specs.List.{filter}
 use Rattle.std.proofs.lemmas.List.Filters.{length-filter_both}
 use Rattle.std.proofs.lemmas.Map.Views.{any-filter_same}
 use Rattle.std.proofs.lemmas.Bool.{cases_eq, ne_eqb}
-use Rattle.nv_host.proofs.Rests.{or-true}
 use Rattle.nv_host.proofs.Rounds.{IsRound, behind, far, pass-far, round-stop}
 use Rattle.nv_host.proofs.Works.{ended-after, ended-enough, leads_more, leads_none, leads_zero}
 use Rattle.nv_host.specs.Passes.{IsPass}
@@ -24,21 +23,6 @@ pub record IsSearch (sc : Scope) (most done : ℕ) (left : List ℕ) (P : Scene 
 pub none-left : (first : Option ℕ) (all left : List ℕ) → first ≡ None → MatchOption first (all ≡ []) (λ t. all ≡ t ∷ left) → all ≡ []
 none-left None all left is none = none
 none-left (Some t) all left is some = cc
-
-pub none-found : (first : Option ℕ) (all left : List ℕ) → is_some first ≡ false → MatchOption first (all ≡ []) (λ t. all ≡ t ∷ left) → all ≡ []
-none-found None all left is none = none
-none-found (Some t) all left is some = cc
-
--- some were left where one was taken, and the others are among them
-pub some-found : (first : Option ℕ) (all left : List ℕ) → is_some first ≡ true → MatchOption first (all ≡ []) (λ t. all ≡ t ∷ left) → all ≡ [] → ⊥
-some-found None all left is none e = cc
-some-found (Some t) all left is some e = cc
-
-pub rest-among : (first : Option ℕ) (all left : List ℕ) (k : ℕ) → is_some first ≡ true → MatchOption first (all ≡ []) (λ t. all ≡ t ∷ left)
-    → is_among left k ≡ true → is_among all k ≡ true
-rest-among None all left k is none among = cc
-rest-among (Some t) all left k is some among =
-    ap (λ (xs : List ℕ). is_among xs k) some ∙ ap (λ (x : Bool). (t == k) || x) among ∙ or-true (t == k)
 
 pub search-none : (sc : Scope) (most : ℕ) (left : List ℕ) (P : Scene → ℕ → Type 0) (a : Scene) → ((k : ℕ) → is_among left k ≡ false → P a k)
     → IsSearch sc most 0 left P a a

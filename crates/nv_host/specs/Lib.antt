@@ -1,5 +1,6 @@
 pub mod Closing
 pub mod Ending
+pub mod Holds
 pub mod InRow
 pub mod Passes
 pub mod Shares

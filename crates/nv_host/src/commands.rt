@@ -57,8 +57,12 @@ impl HostMediator {
         requires { length (C.bytes memory.now) ≡ self.old.setup.host_bytes }
         ensures { IsDone (Event.Take guest queue lane) self.old (C.bytes memory.now) result self.new (C.bytes memory.now) }
     {
-        self.front
-            .take(alloc, &self.layout, guest, queue, lane, memory)
+        let reply = self
+            .front
+            .take(alloc, &self.layout, guest, queue, lane, memory);
+        self.holds.note(&reply, guest);
+        self.holds.keep(lane, self.front.ended(lane));
+        reply
     }
 
     /// Bytes of the guest's memory join the transcript of a tag that was taken, and are the reply. Stale where the tag is at another point, Ignored where
@@ -167,6 +171,11 @@ impl HostMediator {
         ensures done { IsDone (Event.Post lane tag) self.old (C.bytes memory.old) result self.new (C.bytes memory.new) }
         ensures len { length (C.bytes memory.new) ≡ length (C.bytes memory.old) }
     {
-        self.front.post(&self.layout, lane, tag, memory)
+        let holder = self.front.holder(lane, tag);
+        let reply = self.front.post(&self.layout, lane, tag, memory);
+        if let Some(holder) = holder {
+            self.holds.note(&reply, holder.guest);
+        }
+        reply
     }
 }

@@ -30,6 +30,7 @@ impl HostMediator {
         ensures setup { self.new.setup ≡ self.old.setup }
         ensures len { length (C.bytes memory.new) ≡ length (C.bytes memory.old) }
     {
+        self.holds.forget(guest);
         self.front.act(alloc, &self.layout, guest, act, memory)
     }
 
@@ -66,6 +67,8 @@ impl HostMediator {
         ensures done { IsDone (Event.Admin guest) self.old (C.bytes memory.old) result self.new (C.bytes memory.new) }
         ensures len { length (C.bytes memory.new) ≡ length (C.bytes memory.old) }
     {
-        self.front.admin(&self.layout, guest, memory)
+        let reply = self.front.admin(&self.layout, guest, memory);
+        self.holds.note(&reply, guest);
+        reply
     }
 }

@@ -5,6 +5,7 @@ ghost use Rattle.nv_host.specs.Shares.{needed_in_all};
 ghost use Rattle.nv_host.specs.Served.{AreRingsAlone, IsAccepted, IsAtStart, IsPromised, first_refusal, opened, serving_refusal_of};
 ghost use Rattle.nv_world_model.specs.Area.{tag_count};
 
+use crate::holds::Holds;
 use crate::shares::tags_left;
 use nv_core::{Front, Layout};
 use nv_mediator::{Refusal, Setup};
@@ -16,7 +17,7 @@ use std::marker::Model;
 /// The mediator between up to 16 guests and a drive, for a host that has the memory and the drive.
 ///
 /// Its type keeps that its set-up was accepted, and what the mediator's side keeps whatever is in memory. Beside that it has a flag for each lane, whether
-/// it was closed, and each guest's share of a lane's tags.
+/// it was closed, each guest's share of a lane's tags, and notes of commands that wait for room in their guests' completion queues.
 #[derive(Drop)]
 pub struct HostMediator {
     pub(crate) layout: Layout,
@@ -26,16 +27,20 @@ pub struct HostMediator {
     pub(crate) closed: Vec<bool>,
     // of each guest, how many tags of a lane it may have while one more command is taken for it there
     pub(crate) spare: Vec<u8>,
+    pub(crate) holds: Holds,
 }
 
 impl Model for HostMediator {
-    ghost use Rattle.nv_host.specs.Served.{IsServed, Served};
+    ghost use Rattle.nv_host.specs.Holds.{IsServedWith};
+    ghost use Rattle.nv_host.specs.Served.{Served};
 
     ghost Value = { Served };
 
     ghost view = { λ m. record { setup = record { host_bytes = m.host_bytes; lanes = m.lanes; geometry = m.layout }; side = m.front; closed = m.closed.items; spare = m.spare.items } };
 
-    ghost invariant = { λ m. IsServed (record { setup = record { host_bytes = m.host_bytes; lanes = m.lanes; geometry = m.layout }; side = m.front; closed = m.closed.items; spare = m.spare.items }) };
+    ghost invariant = { λ m.
+        IsServedWith (record { setup = record { host_bytes = m.host_bytes; lanes = m.lanes; geometry = m.layout }; side = m.front; closed = m.closed.items; spare = m.spare.items })
+        m.holds };
 }
 
 impl HostMediator {
@@ -92,6 +97,7 @@ impl HostMediator {
             front,
             closed,
             spare,
+            holds: Holds::none(),
         })
     }
 

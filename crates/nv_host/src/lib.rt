@@ -31,6 +31,7 @@ mod commands;
 mod due;
 mod failing;
 mod guests;
+mod holds;
 mod host_mediator;
 mod interrupts;
 pub mod laws;

@@ -12,6 +12,7 @@ use crate::host_mediator::HostMediator;
 use crate::worked::{Round, Scope, Why, Worked, is_done};
 use nv_core::Stray;
 use nv_mem::MemoryCell;
+use nv_model::limits::{MOST_GUESTS, MOST_LANES};
 use nv_tags::Group;
 use nv_world_model::Event;
 use std::alloc::Global;
@@ -31,8 +32,8 @@ impl HostMediator {
     /// is cut off begins again with what was read.
     ///
     /// A round costs what its events cost, and a look at each lane. Tags are looked at where their commands wait or have ended, and guests where a note says that
-    /// something may be due of their queues; the note is made when the guest's controller changes. Of the commands that wait for room in one completion queue
-    /// one is looked at, for each submission queue whose commands are completed there.
+    /// something may be due of their queues; the note is made when the guest's controller changes. A command that waits for room in its guest's completion queue
+    /// is looked at once, and then not before its guest's controller has changed.
     ///
     /// A guest's next command is taken for a lane only where the guest has so few tags there that the command may need whatever it can
     /// ([`HostMediator::set_share`]). So a call leaves each guest within its share of a lane where it was; and since all shares together are no more than a
@@ -197,52 +198,8 @@ impl HostMediator {
         ensures passed { (lane : ℕ) → from ≤ lane → lane < result → LaneRests (scene self.now (C.bytes memory.now)) lane }
         ensures on { result < to → from ≤ result }
     {
-        let mut lane = self.front.next_busy(&self.layout, from, to, memory);
-        while lane < to {
-            if !self.rests(lane, memory) {
-                return lane;
-            }
-            lane = self.front.next_busy(&self.layout, lane + 1, to, memory);
-        }
-        lane
-    }
-
-    // Whether nothing is due of a lane some of whose commands have ended, since these wait for room in their guests' completion queues.
-    #[inline(always)]
-    fn rests<C: MemoryCell>(&self, lane: u8, memory: &[C]) -> bool
-        requires { length (C.bytes memory.now) ≡ self.now.setup.host_bytes }
-        ensures { IsTrue result → LaneRests (scene self.now (C.bytes memory.now)) lane }
-    {
-        if self.front.ended(lane).pop().is_none() {
-            return false;
-        }
-        self.only_holds(lane, memory)
-    }
-
-    // The same, whether or not some have ended.
-    #[inline(never)]
-    fn only_holds<C: MemoryCell>(&self, lane: u8, memory: &[C]) -> bool
-        requires { length (C.bytes memory.now) ≡ self.now.setup.host_bytes }
-        ensures { IsTrue result → LaneRests (scene self.now (C.bytes memory.now)) lane }
-    {
-        if self.reap_due(lane, memory) {
-            return false;
-        }
-        let mut taken = self.front.taken(lane);
-        let waiting = taken.pop();
-        if waiting.is_some() {
-            return false;
-        }
-        let mut left = self.front.ended(lane);
-        while let Some(tag) = left.pop() {
-            let mut held = self.held_with(lane, tag);
-            let lowest = held.pop();
-            if lowest.is_none() {
-                return false;
-            }
-            left.drop_all(held);
-        }
-        true
+        self.front
+            .next_busy(&self.layout, from, to, &self.holds.tags, memory)
     }
 
     // A lane's round, and then its commands that wait for their plans. These have 64 events at most, and the lists of the last as many more as `most` allows.
@@ -323,13 +280,12 @@ impl HostMediator {
         ensures setup { self.new.setup ≡ self.old.setup }
         ensures len { length (C.bytes memory.new) ≡ length (C.bytes memory.old) }
     {
-        let earlier = self.front.ended(lane).pop();
         let read = self.reap_each(lane, most, memory);
         if read.ends(most) {
             return read;
         }
         let done = read.done;
-        let posted = self.post_each(lane, earlier, most - done, memory);
+        let posted = self.post_each(lane, most - done, memory);
         Worked::after(done, posted)
     }
 
@@ -376,15 +332,9 @@ impl HostMediator {
         }
     }
 
-    // Completes the commands of a lane that have ended, where the lowest of those that had ended `earlier` is this. Where one waits for room in its guest's
-    // completion queue, those of the same queue are passed by.
-    fn post_each<C: MemoryCell>(
-        &mut self,
-        lane: u8,
-        earlier: Option<u8>,
-        most: u64,
-        memory: &mut [C],
-    ) -> Worked
+    // Completes the commands of a lane that have ended. Those that are noted as waiting for room in their guests' completion queues are passed by; where one
+    // more is found to wait, those of the same queue are noted.
+    fn post_each<C: MemoryCell>(&mut self, lane: u8, most: u64, memory: &mut [C]) -> Worked
         requires some { 0 < most }
         requires lent { length (C.bytes memory.old) ≡ self.old.setup.host_bytes }
         ensures pass { let old = scene self.old (C.bytes memory.old) in
@@ -393,7 +343,7 @@ impl HostMediator {
         ensures len { length (C.bytes memory.new) ≡ length (C.bytes memory.old) }
     {
         let mut done: u64 = 0;
-        let mut ended = self.to_post(lane, earlier);
+        let mut ended = self.to_post(lane);
         while let Some(tag) = ended.pop() {
             if done >= most {
                 return Worked::so_far(done);
@@ -402,30 +352,34 @@ impl HostMediator {
             if posted {
                 done += 1;
             } else {
-                ended.drop_all(self.held_with(lane, tag));
+                ended.drop_all(self.note_held(lane, tag));
             }
         }
         Worked::so_far(done)
     }
 
-    // The tags of a lane whose commands have ended, but for those that wait for room with this one, which had ended `earlier`.
-    fn to_post(&self, lane: u8, earlier: Option<u8>) -> Group
+    // The tags of a lane whose commands have ended, but for those that are noted as waiting for room.
+    fn to_post(&self, lane: u8) -> Group
         ensures { (memory : List ℕ) (tag : ℕ) → list_any (λ t. t == tag) result ≡ false → NotDue (scene self.now memory) (Event.Post lane tag) }
     {
         let mut ended = self.front.ended(lane);
-        if let Some(tag) = earlier {
-            ended.drop_all(self.held_with(lane, tag));
-        }
+        ended.drop_all(self.holds.of_lane(lane));
         ended
     }
 
-    // The tags of a lane that are of the same queue as this one, where its guest's completion queue has no room: none of their commands may be completed,
-    // and where there is one of them, this one's may not.
-    fn held_with(&self, lane: u8, tag: u8) -> Group
-        ensures others { (memory : List ℕ) (other : ℕ) → list_any (λ t. t == other) result ≡ true → NotDue (scene self.now memory) (Event.Post lane other) }
-        ensures own { (memory : List ℕ) → (result ≡ [] → ⊥) → NotDue (scene self.now memory) (Event.Post lane tag) }
+    // The tags of a lane that are of the same queue as this one, where its guest's completion queue has no room: none of their commands may be completed.
+    // That is noted.
+    fn note_held(&mut self, lane: u8, tag: u8) -> Group
+        ensures others { (memory : List ℕ) (other : ℕ) → list_any (λ t. t == other) result ≡ true → NotDue (scene self.old memory) (Event.Post lane other) }
+        ensures same { self.new ≡ self.old }
     {
-        self.front.held_with(lane, tag)
+        let held = self.front.held_with(lane, tag);
+        if let Some(holder) = self.front.holder(lane, tag) {
+            if lane < MOST_LANES && holder.guest < MOST_GUESTS {
+                self.holds.add(lane, &held, holder.guest);
+            }
+        }
+        held
     }
 
     // Completes the command that goes by a tag, where that is due; whether it was.

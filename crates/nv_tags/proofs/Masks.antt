@@ -1,5 +1,5 @@
 -- Tags as the bits of a number
-use Rattle.std.proofs.Common.{◌≡◌, ℕ, zero, suc, ◌+◌, ◌*◌, ◌-◌, ◌/◌, ◌%◌, ◌^◌, ◌<◌, ◌==◌, cond, Bool, true, false, ◌⊎◌, inl, inr, List, [], ◌∷◌}
+use Rattle.std.proofs.Common.{◌≡◌, ℕ, zero, suc, ◌+◌, ◌*◌, ◌-◌, ◌/◌, ◌%◌, ◌^◌, ◌<◌, ◌≤◌, ◌==◌, cond, Bool, true, false, ◌⊎◌, inl, inr, List, [], ◌∷◌}
 use Rattle.std.proofs.Common.{count_ones, length, pow-suc, arith, refl, sym, ap, ◌∙◌}
 use lib.Count.{ones_step}
 use Rattle.std.specs.Int.{bit_at, trailing_zeros, w64}
@@ -8,7 +8,7 @@ use Rattle.std.proofs.lemmas.Bool.{cases_eq, cond-false, cond-true, eq-eqb, ne_e
 use Rattle.std.proofs.lemmas.Nat.Bits.{bit_at-lt, bit_at-suc, bit_at-trailing_zeros, bit_at-zero, bit_at_clear_other, bit_at_clear_same, bit_at_lowest, bit_at_set_other, bit_at_set_same}
 use Rattle.std.proofs.lemmas.Nat.{ones-le}
 use Rattle.nv_tags.specs.Kept.{IsWith, IsWithout, tags_in}
-use Rattle.nv_tags.proofs.Rows.{among-holding, holding, holding-lowest, holding-none, is_among, length-holding}
+use Rattle.nv_tags.proofs.Rows.{among-above, among-holding, holding, holding-high, holding-lowest, holding-none, is_among, length-holding}
 
 -- whether a tag's bit is set
 abbrev pub is_set : (mask tag : ℕ) → Bool
@@ -65,6 +65,11 @@ tags_in-lowest mask rest some fits without =
 pub among-tags_in : (mask tag : ℕ) → tag < 64 → is_among (tags_in mask) tag ≡ is_set mask tag
 unfolding tags_in
 among-tags_in mask tag there = among-holding (is_set mask) 0 64 tag (omega arith) there
+
+-- none from 64 on
+pub among-past : (mask tag : ℕ) → 64 ≤ tag → is_among (tags_in mask) tag ≡ false
+unfolding tags_in
+among-past mask tag past = among-above (tags_in mask) 64 tag (holding-high (is_set mask) 0 64) past
 
 -- ---- how many they are
 

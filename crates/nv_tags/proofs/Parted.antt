@@ -1,18 +1,19 @@
 -- Tags that are in two masks, or in one and not in another
-use Rattle.std.proofs.Common.{◌≡◌, ℕ, ◌-◌, ◌<◌, ◌^◌, ◌==◌, ◌&&◌, not, Bool, true, false, List, length, slice_index, arith, refl, sym, ap, ◌∙◌}
+use Rattle.std.proofs.Common.{◌≡◌, ℕ, zero, suc, ◌-◌, ◌<◌, ◌^◌, ◌==◌, ◌&&◌, ◌||◌, not, Bool, true, false, inl, inr, List, length, slice_index, arith, refl, sym, ap, ◌∙◌}
 use Rattle.std.specs.Int.{bit_at, w64}
 use Rattle.std.specs.List.{filter}
-use Rattle.std.specs.Prelude.{bit_and, min}
-use Rattle.std.proofs.lemmas.Nat.Bits.{bit_at_and, bit_at_not}
+use Rattle.std.specs.Prelude.{bit_and, bit_or, max, min}
+use Rattle.std.proofs.lemmas.Bool.{ne_eqb}
+use Rattle.std.proofs.lemmas.Nat.Bits.{bit_at-lt, bit_at_and, bit_at_not, bit_at_or}
 use Rattle.nv_entry.specs.Status.{bit}
-use Rattle.nv_tags.specs.Kept.{AreKept, AreNumbered, slots_of, tags_in}
+use Rattle.nv_tags.specs.Kept.{AreKept, AreNumbered, IsWith, slots_of, tags_in}
 use Rattle.nv_tags.specs.Numbers.{ByGuest, ByQueue, Key, has_number, is_from}
 use Rattle.nv_tags.specs.Tags.{Free, Slot, Used, slot_at, tags_where}
 use Rattle.nv_tags.specs.declared.claim.Claim.{Claim}
 use Rattle.nv_tags.specs.declared.state.TagState.{TagState}
 use Rattle.nv_tags.proofs.Groups.{bit_test, test_bit}
-use Rattle.nv_tags.proofs.Masks.{among-tags_in, is_set}
-use Rattle.nv_tags.proofs.Rows.{holding, holding-filter, holding-same, is_among}
+use Rattle.nv_tags.proofs.Masks.{among-past, among-tags_in, is_set, only-is}
+use Rattle.nv_tags.proofs.Rows.{holding, holding-filter, holding-same, is_among, less-or-past}
 use Rattle.nv_tags.proofs.Together.{lane_length}
 
 and-set : (a b t : ℕ) → is_set (bit_and a b) t ≡ (is_set a t && is_set b t)
@@ -26,6 +27,56 @@ and-set a b t =
     join true false = refl
     join false true = refl
     join false false = refl
+
+or-set : (a b t : ℕ) → is_set (bit_or a b) t ≡ (is_set a t || is_set b t)
+or-set a b t =
+    ap (λ (n : ℕ). n == 1)
+    (bit_at_or a b t ∙ ap (λ (n : ℕ). max n (bit_at b t)) (bit_test a t) ∙ ap (λ (n : ℕ). max (bit (is_set a t)) n) (bit_test b t))
+    ∙ either (is_set a t) (is_set b t)
+  where
+    either : (x y : Bool) → max (bit x) (bit y) == 1 ≡ (x || y)
+    either true true = refl
+    either true false = refl
+    either false true = refl
+    either false false = refl
+
+-- the tags of two masks together
+pub among-or : (a b t : ℕ) → is_among (tags_in (bit_or a b)) t ≡ (is_among (tags_in a) t || is_among (tags_in b) t)
+among-or a b t = (elim (less-or-past t 64) [
+  | inl below ↦
+      among-tags_in (bit_or a b) t below ∙ or-set a b t
+      ∙ ap (λ (x : Bool). x || is_set b t) (sym (among-tags_in a t below)) ∙ ap (λ (x : Bool). is_among (tags_in a) t || x) (sym (among-tags_in b t below))
+  | inr past ↦
+      among-past (bit_or a b) t past
+      ∙ ap (λ (x : Bool). x || false) (sym (among-past a t past)) ∙ ap (λ (x : Bool). is_among (tags_in a) t || x) (sym (among-past b t past))
+])
+
+-- the tags of both
+pub among-and : (a b t : ℕ) → is_among (tags_in (bit_and a b)) t ≡ (is_among (tags_in a) t && is_among (tags_in b) t)
+among-and a b t = (elim (less-or-past t 64) [
+  | inl below ↦
+      among-tags_in (bit_and a b) t below ∙ and-set a b t
+      ∙ ap (λ (x : Bool). x && is_set b t) (sym (among-tags_in a t below)) ∙ ap (λ (x : Bool). is_among (tags_in a) t && x) (sym (among-tags_in b t below))
+  | inr past ↦
+      among-past (bit_and a b) t past
+      ∙ ap (λ (x : Bool). x && false) (sym (among-past a t past)) ∙ ap (λ (x : Bool). is_among (tags_in a) t && x) (sym (among-past b t past))
+])
+
+-- one tag
+pub among-one : (tag mask t : ℕ) → tag < 64 → IsWith 0 tag mask → is_among (tags_in mask) t ≡ (t == tag)
+among-one tag mask t there with = (elim (less-or-past t 64) [
+  | inl below ↦ among-tags_in mask t below ∙ only-is tag mask t with below
+  | inr past ↦ among-past mask t past ∙ sym (ne_eqb t tag (λ same. absurd (omega (arith, same, past, there))))
+])
+
+-- whether a tag is one of them, by its bit
+pub among-bit : (mask t : ℕ) → t < 64 → is_among (tags_in mask) t ≡ not (bit_at mask t == 0)
+among-bit mask t below = among-tags_in mask t below ∙ by_value (bit_at mask t) (bit_at-lt mask t)
+  where
+    by_value : (n : ℕ) → n < 2 → n == 1 ≡ not (n == 0)
+    by_value zero low = refl
+    by_value (suc zero) low = refl
+    by_value (suc (suc n)) low = absurd (omega (arith, low))
 
 not-set : (b t : ℕ) → b < 2 ^ 64 → t < 64 → is_set (18446744073709551615 - b) t ≡ not (is_set b t)
 not-set b t fits below =

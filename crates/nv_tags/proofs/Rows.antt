@@ -1,5 +1,5 @@
 -- The numbers in a row of which a test holds, in order
-use Rattle.std.proofs.Common.{◌≡◌, ℕ, zero, suc, ◌+◌, ◌<◌, ◌≤◌, ◌==◌, ◌||◌, ◌&&◌, cond, Bool, true, false, inl, inr, List, [], ◌∷◌, length, take, arith}
+use Rattle.std.proofs.Common.{◌≡◌, ℕ, zero, suc, ◌+◌, ◌<◌, ◌≤◌, ◌==◌, ◌||◌, ◌&&◌, ◌⊎◌, cond, Bool, true, false, inl, inr, List, [], ◌∷◌, length, take, arith}
 use Rattle.std.proofs.Common.{refl, sym, ap, ◌∙◌, subst}
 use Rattle.std.specs.List.{All, filter, list_any, range_with_len}
 use Rattle.std.proofs.lemmas.Bool.{cases_eq, eq-eqb, ne_eqb}
@@ -128,6 +128,12 @@ holding-high test from (suc count) =
 abbrev pub is_among : List ℕ → ℕ → Bool
 is_among xs i = list_any (λ x. x == i) xs
 
+-- a number is below another, or not
+pub less-or-past : (i past : ℕ) → (i < past) ⊎ (past ≤ i)
+less-or-past i zero = inr (omega arith)
+less-or-past zero (suc past) = inl (omega arith)
+less-or-past (suc i) (suc past) = (elim (less-or-past i past) [ inl less ↦ inl (omega (arith, less)) | inr not ↦ inr (omega (arith, not)) ])
+
 -- none is below the first
 among-below : (xs : List ℕ) (from i : ℕ) → All (λ x. from ≤ x) xs → i < from → is_among xs i ≡ false
 among-below [] from i above below = refl
@@ -135,6 +141,14 @@ among-below (x ∷ xs) from i above below =
     let first = above 0 0 (omega arith) in
     ap (λ (b : Bool). b || is_among xs i) (ne_eqb x i (λ same. absurd (omega arith)))
     ∙ among-below xs from i (λ k d within. above (suc k) d (omega arith)) below
+
+-- nor above the last
+pub among-above : (xs : List ℕ) (past i : ℕ) → All (λ x. x < past) xs → past ≤ i → is_among xs i ≡ false
+among-above [] past i below above = refl
+among-above (x ∷ xs) past i below above =
+    let first = below 0 0 (omega arith) in
+    ap (λ (b : Bool). b || is_among xs i) (ne_eqb x i (λ same. absurd (omega arith)))
+    ∙ among-above xs past i (λ k d within. below (suc k) d (omega arith)) above
 
 -- by what the test says of the first
 by_test-here : (test : ℕ → Bool) (from count i : ℕ) → from ≡ i → (b : Bool) → test from ≡ b

@@ -1,5 +1,5 @@
 use Rattle.std.proofs.Common.{slice_get, sym, ap, ◌∙◌, arith}
-use Rattle.nv_core.proofs.FullQueues.{all-waiting, full-held, none-waits}
+use Rattle.nv_core.proofs.FullQueues.{all-waiting, full-held, held-with, none-waits}
 use Rattle.nv_core.proofs.GroupWorlds.{looked-up}
 use Rattle.nv_core.specs.Front.{Side}
 use Rattle.nv_core.proofs.front.Front.held_with.Goals as goal
@@ -25,3 +25,10 @@ returns-clause-rest c = λ layout other memory w among on.
     (sym (ap (λ (f : Side). slice_get f.lanes c.args.lane) c.self.view_is)
     ∙ looked-up c.self.inside.lanes.items c.args.lane c.from-number.result c.index-ring.result.now c.from-number.ensures (omega arith) c.index-ring.ensures)
     c.from_queue.result c.from_queue.ensures among
+
+pub returns-clause-full : goal.returns-clause-full
+returns-clause-full c =
+    held-with c.args.self.now c.args.lane c.args.tag c.index-ring.result.now
+    (sym (ap (λ (f : Side). slice_get f.lanes c.args.lane) c.self.view_is)
+    ∙ looked-up c.self.inside.lanes.items c.args.lane c.from-number.result c.index-ring.result.now c.from-number.ensures (omega arith) c.index-ring.ensures)
+    c.in-Some.origin (sym c.origin.ensures ∙ c.in-Some.is) (c.may_post.ensures.no c.if-may_post.false) c.from_queue.result c.from_queue.ensures

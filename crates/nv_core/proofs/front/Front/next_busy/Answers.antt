@@ -1,6 +1,6 @@
-use Rattle.std.proofs.Common.{◌∙◌, ℕ, false, slice_get, arith, inl, inr, ap, sym}
+use Rattle.std.proofs.Common.{◌∙◌, ℕ, slice_get, arith, inl, inr, ap, sym}
 use Rattle.std.proofs.lemmas.Bool.{cases_eq}
-use Rattle.nv_core.specs.News.{is_busy}
+use Rattle.nv_core.specs.News.{is_busy, tags_at}
 use Rattle.nv_core.proofs.front.Front.next_busy.Goals as goal
 
 pub loop-lane-init : goal.loop-lane-init
@@ -23,7 +23,7 @@ loop-lane-preserved g c =
       passed = λ lane from below.
           elim (cases_eq lane c.loop-lane.lane) [
             | inl same ↦
-                ap (λ (k : ℕ). is_busy c.args.layout.now k (slice_get c.args.self.now.lanes k) (g.C.MemoryCell.bytes c.args.host.now)) same
+                ap (λ (k : ℕ). is_busy c.args.layout.now k (slice_get c.args.self.now.lanes k) (tags_at c.args.held.now k) (g.C.MemoryCell.bytes c.args.host.now)) same
                 ∙ sym c.is_busy.ensures ∙ c.if-is_busy.false
             | inr other ↦ c.loop-lane.invariant.passed lane from (omega (arith, below, other))
           ];

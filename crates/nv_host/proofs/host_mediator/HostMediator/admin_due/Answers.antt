@@ -4,7 +4,7 @@ use Rattle.nv_world_model.specs.declared.event.Event.TheVariants as event
 use Rattle.nv_host.proofs.host_mediator.HostMediator.admin_due.Goals as goal
 
 pub admin_due-requires : goal.admin_due-requires
-admin_due-requires c = c.self.invariant.kept
+admin_due-requires c = c.self.invariant.served.kept
 
 pub returns : goal.returns
 returns c = λ memory.

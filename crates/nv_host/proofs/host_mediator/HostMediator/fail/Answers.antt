@@ -18,9 +18,9 @@ returns-then-not-has_reaped-clause-run g c =
     let h = made c.self.inside.host_bytes c.self.inside.lanes c.self.inside.layout c.self.inside.front c.self.inside.closed.items c.self.inside.spare.items in
     let before : List ℕ = g.C.MemoryCell.bytes c.args.memory.now in
     let mid : List ℕ = g.C.MemoryCell.bytes c.put_entry.new.memory in
-    let there = lane-there h c.args.self.now c.self.view_is c.self.invariant c.args.lane c.requires.there in
+    let there = lane-there h c.args.self.now c.self.view_is c.self.invariant.served c.args.lane c.requires.there in
     let tail : ℕ = unwrap_or (slice_get c.args.self.now.side.tails c.args.lane) 0 in
-    let tail_is = tail-there h c.args.self.now c.self.view_is c.self.invariant c.args.lane c.requires.there in
+    let tail_is = tail-there h c.args.self.now c.self.view_is c.self.invariant.served c.args.lane c.requires.there in
     let entry_is =
     c.failing_entry-entry.ensures.bytes
     ∙ ap (λ (b : Bool). completion 0 tail (queue_pair c.args.lane) c.args.tag b fault) (c.wanted_phase-phase.ensures there.0 there.1) in
@@ -46,9 +46,9 @@ returns-else-not-has_reaped-clause-run g c =
     let h = made c.self.inside.host_bytes c.self.inside.lanes c.self.inside.layout c.self.inside.front c.self.inside.closed.items c.self.inside.spare.items in
     let before : List ℕ = g.C.MemoryCell.bytes c.args.memory.now in
     let mid : List ℕ = g.C.MemoryCell.bytes c.put_entry.new.memory in
-    let there = lane-there h c.args.self.now c.self.view_is c.self.invariant c.args.lane c.requires.there in
+    let there = lane-there h c.args.self.now c.self.view_is c.self.invariant.served c.args.lane c.requires.there in
     let tail : ℕ = unwrap_or (slice_get c.args.self.now.side.tails c.args.lane) 0 in
-    let tail_is = tail-there h c.args.self.now c.self.view_is c.self.invariant c.args.lane c.requires.there in
+    let tail_is = tail-there h c.args.self.now c.self.view_is c.self.invariant.served c.args.lane c.requires.there in
     let entry_is =
     c.failing_entry-entry.ensures.bytes
     ∙ ap (λ (b : Bool). completion 0 tail (queue_pair c.args.lane) c.args.tag b fault) (c.wanted_phase-phase.ensures there.0 there.1) in
@@ -61,5 +61,5 @@ returns-else-not-has_reaped-clause-run g c =
     let named = ap cid_of (c.put_entry.ensures.next there.0 there.1) ∙ c.failing_entry-entry.ensures.fields.identifier in
     failed-run c.args.self.now.setup.geometry c.args.lane c.args.tag c.args.self.now.side c.has_reaped.new.self.side before mid c.next_entry-there.result
     c.failing_entry-entry.result there.0 there.1 tail tail_is entry_is (c.put_entry.ensures.stored there.0 there.1)
-    c.args.self.now.setup.host_bytes (laid-there h c.args.self.now c.self.view_is c.self.invariant) flies (c.has_reaped.ensures.done told)
+    c.args.self.now.setup.host_bytes (laid-there h c.args.self.now c.self.view_is c.self.invariant.served) flies (c.has_reaped.ensures.done told)
     (c.has_reaped.ensures.run told) named

@@ -40,4 +40,4 @@ pub returns-clause-each : goal.returns-clause-each
 returns-clause-each c =
     let h = made c.self.inside.host_bytes c.self.inside.lanes c.self.inside.layout c.self.inside.front c.self.inside.closed.items c.self.inside.spare.items in
     all-given c.args.self.now.setup.geometry c.loop-tag.tag c.args.lane c.args.self.now.side c.loop-tag.self.side
-    (subst (λ (x : Served). IsKept x.setup.geometry x.side) c.self.view_is c.self.invariant.kept) c.loop-tag-test.false c.loop-tag.invariant.each
+    (subst (λ (x : Served). IsKept x.setup.geometry x.side) c.self.view_is c.self.invariant.served.kept) c.loop-tag-test.false c.loop-tag.invariant.each

@@ -19,4 +19,4 @@ returns-in-Ok-Done-clause-run g c = λ told.
     let h = made c.self.inside.host_bytes c.self.inside.lanes c.self.inside.layout c.self.inside.front c.self.inside.closed.items c.self.inside.spare.items in
     let is : c.reap.result ≡ Ok reply.Done = cc in
     read-run c.args.self.now.setup.geometry c.args.lane c.args.self.now.side c.reap.new.self.side (g.C.MemoryCell.bytes c.args.memory.now) c.reap.result
-    c.args.self.now.setup.host_bytes (laid-there h c.args.self.now c.self.view_is c.self.invariant) c.reap.ensures.worlds is
+    c.args.self.now.setup.host_bytes (laid-there h c.args.self.now c.self.view_is c.self.invariant.served) c.reap.ensures.worlds is

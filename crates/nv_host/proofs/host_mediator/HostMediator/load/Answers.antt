@@ -11,7 +11,7 @@ use Rattle.nv_host.proofs.host_mediator.HostMediator.load.Goals as goal
 pub load-requires : goal.load-requires
 load-requires g c =
     let h = made c.self.inside.host_bytes c.self.inside.lanes c.self.inside.layout c.self.inside.front c.self.inside.closed.items c.self.inside.spare.items in
-    served-lent h c.args.self.now c.self.view_is c.self.invariant (g.C.MemoryCell.bytes c.args.memory.now) c.requires
+    served-lent h c.args.self.now c.self.view_is c.self.invariant.served (g.C.MemoryCell.bytes c.args.memory.now) c.requires
 
 pub returns : goal.returns
 returns g c =
@@ -20,5 +20,5 @@ returns g c =
     let e : Event = event.Guest c.args.guest (act.Load c.args.addr (length c.args.room.now)) in
     loaded-so _ _
     (λ r made. subst (λ (x : Served). IsDone e c.args.self.now before r x before) c.self.view_is
-    (call-done h c.args.self.now c.self.view_is c.self.invariant e tt h.side before before r made refl refl))
+    (call-done h c.args.self.now c.self.view_is c.self.invariant.served e tt h.side before before r made refl refl))
     c.load.result c.args.room.now c.load.new.room c.load.ensures

@@ -14,9 +14,9 @@ overflow_add-result c =
     c.completion_ring.ensures c.requires in
     let read : c.from.result < ring_size =
     subst (λ (n : ℕ). n < ring_size) (sym (c.from.ensures ∙ c.unwrap_or-head.ensures ∙ ap (λ (x : Option ℕ). unwrap_or x 0) c.head.ensures.value))
-    (head-small h c.args.self.now c.self.view_is c.self.invariant c.args.lane) in
-    let room = lane-inside h c.args.self.now c.self.view_is c.self.invariant c.args.lane c.requires in
-    let few = few-bytes h c.args.self.now c.self.view_is c.self.invariant c.args.lane in
+    (head-small h c.args.self.now c.self.view_is c.self.invariant.served c.args.lane) in
+    let room = lane-inside h c.args.self.now c.self.view_is c.self.invariant.served c.args.lane c.requires in
+    let few = few-bytes h c.args.self.now c.self.view_is c.self.invariant.served c.args.lane in
     omega (arith, ring, read, room, few)
 
 pub returns-clause-inside : goal.returns-clause-inside
@@ -28,9 +28,9 @@ returns-clause-inside c =
     c.completion_ring.ensures c.requires in
     let read : c.from.result < ring_size =
     subst (λ (n : ℕ). n < ring_size) (sym (c.from.ensures ∙ c.unwrap_or-head.ensures ∙ ap (λ (x : Option ℕ). unwrap_or x 0) c.head.ensures.value))
-    (head-small h c.args.self.now c.self.view_is c.self.invariant c.args.lane) in
-    let room = lane-inside h c.args.self.now c.self.view_is c.self.invariant c.args.lane c.requires in
-    let few = few-bytes h c.args.self.now c.self.view_is c.self.invariant c.args.lane in
+    (head-small h c.args.self.now c.self.view_is c.self.invariant.served c.args.lane) in
+    let room = lane-inside h c.args.self.now c.self.view_is c.self.invariant.served c.args.lane c.requires in
+    let few = few-bytes h c.args.self.now c.self.view_is c.self.invariant.served c.args.lane in
     omega (arith, ring, read, room)
 
 pub returns-clause-high : goal.returns-clause-high
@@ -42,7 +42,7 @@ returns-clause-high c =
     c.completion_ring.ensures c.requires in
     let read : c.from.result < ring_size =
     subst (λ (n : ℕ). n < ring_size) (sym (c.from.ensures ∙ c.unwrap_or-head.ensures ∙ ap (λ (x : Option ℕ). unwrap_or x 0) c.head.ensures.value))
-    (head-small h c.args.self.now c.self.view_is c.self.invariant c.args.lane) in
-    let room = lane-inside h c.args.self.now c.self.view_is c.self.invariant c.args.lane c.requires in
-    let few = few-bytes h c.args.self.now c.self.view_is c.self.invariant c.args.lane in
+    (head-small h c.args.self.now c.self.view_is c.self.invariant.served c.args.lane) in
+    let room = lane-inside h c.args.self.now c.self.view_is c.self.invariant.served c.args.lane c.requires in
+    let few = few-bytes h c.args.self.now c.self.view_is c.self.invariant.served c.args.lane in
     omega (arith, ring, read)

@@ -6,7 +6,7 @@ use Rattle.nv_host.proofs.host_mediator.HostMediator.place.Goals as goal
 pub overflow_add-start : goal.overflow_add-start
 overflow_add-start c =
     let s : SetUp = record { host_bytes = c.self.inside.host_bytes; lanes = c.self.inside.lanes; geometry = c.self.inside.layout } in
-    let laid = lies-out s c.self.invariant.accepted c.self.invariant.sound in
+    let laid = lies-out s c.self.invariant.served.accepted c.self.invariant.served.sound in
     let area = laid.area in
     let few = laid.few in
     let begins = c.mediator.ensures in
@@ -18,7 +18,7 @@ overflow_add-start c =
 pub overflow_add-result : goal.overflow_add-result
 overflow_add-result c =
     let s : SetUp = record { host_bytes = c.self.inside.host_bytes; lanes = c.self.inside.lanes; geometry = c.self.inside.layout } in
-    let laid = lies-out s c.self.invariant.accepted c.self.invariant.sound in
+    let laid = lies-out s c.self.invariant.served.accepted c.self.invariant.served.sound in
     let area = laid.area in
     let few = laid.few in
     let begins = c.mediator.ensures in

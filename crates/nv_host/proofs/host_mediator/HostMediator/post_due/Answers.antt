@@ -4,7 +4,7 @@ use Rattle.nv_world_model.specs.declared.event.Event.TheVariants as event
 use Rattle.nv_host.proofs.host_mediator.HostMediator.post_due.Goals as goal
 
 pub post_due-requires : goal.post_due-requires
-post_due-requires c = c.self.invariant.kept
+post_due-requires c = c.self.invariant.served.kept
 
 pub returns : goal.returns
 returns c = λ memory.

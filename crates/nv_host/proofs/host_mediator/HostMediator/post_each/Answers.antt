@@ -1,6 +1,7 @@
-use Rattle.std.proofs.Common.{◌∙◌, ◌+◌, ℕ, List, ap, arith, length, refl}
-use Rattle.nv_host.proofs.Searches.{fewer, none-left, search-count, search-drop, search-end, search-full, search-none, search-same}
+use Rattle.std.proofs.Common.{◌∙◌, ℕ, List, ap, arith, length, refl, subst, sym}
+use Rattle.nv_host.proofs.Searches.{IsSearch, fewer, none-left, search-count, search-drop, search-end, search-full, search-none, search-same}
 use Rattle.nv_world_model.specs.declared.event.Event.TheVariants as event
+use Rattle.nv_host.specs.Served.{Served}
 use Rattle.nv_host.specs.Work.{NotDue, Scene, scene}
 use Rattle.nv_host.specs.declared.worked.Scope.TheVariants as scope
 use Rattle.nv_host.proofs.host_mediator.HostMediator.post_each.Goals as goal
@@ -45,10 +46,13 @@ loop-tag-preserved g c =
     let same = search-same (scope.Lane c.args.lane) c.args.most c.loop-tag.done c.in-Some.tag c.loop-tag.ended c.pop.new.self
     (λ (s : Scene) (k : ℕ). NotDue s (event.Post c.args.lane k)) a b n c.loop-tag.invariant.search c.in-Some.ensures.lowest not.0 not.1 in
     record {
-      search = search-drop (scope.Lane c.args.lane) c.args.most c.loop-tag.done c.pop.new.self c.held_with.result c.drop_all.new.self
+      search = subst (λ (x : Served). IsSearch (scope.Lane c.args.lane) c.args.most c.loop-tag.done c.drop_all.new.self
+          (λ (s : Scene) (k : ℕ). NotDue s (event.Post c.args.lane k)) a (scene x (g.C.MemoryCell.bytes c.has_posted-posted.new.memory)))
+          (sym c.note_held.ensures.same)
+          (search-drop (scope.Lane c.args.lane) c.args.most c.loop-tag.done c.pop.new.self c.note_held.result c.drop_all.new.self
           (λ (s : Scene) (k : ℕ). NotDue s (event.Post c.args.lane k)) a n same c.drop_all.ensures
-          (λ k among. c.held_with.ensures.others (g.C.MemoryCell.bytes c.has_posted-posted.new.memory) k among);
-      setup = c.has_posted-posted.ensures.setup ∙ c.loop-tag.invariant.setup;
+          (λ k among. c.note_held.ensures.others (g.C.MemoryCell.bytes c.has_posted-posted.new.memory) k among));
+      setup = ap (λ (x : Served). x.setup) c.note_held.ensures.same ∙ c.has_posted-posted.ensures.setup ∙ c.loop-tag.invariant.setup;
       len = c.has_posted-posted.ensures.len ∙ c.loop-tag.invariant.len;
     }
 
@@ -63,6 +67,6 @@ returns-clause-pass g c =
 
 pub loop-tag-smaller : goal.loop-tag-smaller
 loop-tag-smaller g c =
-    let less = fewer c.held_with.result c.pop.new.self c.drop_all.new.self c.drop_all.ensures in
+    let less = fewer c.note_held.result c.pop.new.self c.drop_all.new.self c.drop_all.ensures in
     let popped = ap (λ (tags : List ℕ). length tags) c.in-Some.ensures.lowest in
     omega (arith, less, popped)

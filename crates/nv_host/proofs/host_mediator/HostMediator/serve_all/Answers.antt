@@ -1,12 +1,11 @@
-use Rattle.std.proofs.Common.{◌≡◌, ◌∙◌, ◌<◌, ◌≤◌, ◌-◌, ℕ, inl, inr, subst, ap, sym, leb-true, arith}
+use Rattle.std.proofs.Common.{◌≡◌, ◌∙◌, ◌<◌, ◌-◌, ℕ, inl, inr, subst, ap, sym, leb-true, arith}
 use Rattle.std.proofs.lemmas.Bool.{cases_lt}
 use Rattle.nv_host.proofs.Rests.{all-rests, guest-rests}
 use Rattle.nv_host.proofs.Rounds.{after-fits, first-leads, round-of, two-both, two-first}
 use Rattle.nv_host.proofs.Works.{leads_zero}
-use Rattle.nv_host.specs.Passes.{IsPass, LaneRests, QueuesRest}
-use Rattle.nv_host.specs.Work.{Rests, Scene, scene}
+use Rattle.nv_host.specs.Passes.{LaneRests, QueuesRest}
+use Rattle.nv_host.specs.Work.{Scene, scene}
 use Rattle.nv_host.specs.declared.worked.Scope.TheVariants as scope
-use Rattle.nv_host.specs.declared.worked.Why.TheVariants as why
 use Rattle.nv_host.specs.declared.worked.Worked.{Worked}
 use Rattle.nv_world_model.specs.SetUp.{SetUp}
 use Rattle.nv_host.proofs.host_mediator.HostMediator.serve_all.Goals as goal

@@ -13,7 +13,7 @@ use Rattle.nv_host.proofs.host_mediator.HostMediator.serve_lane.Goals as goal
 pub has_news-requires : goal.has_news-requires
 has_news-requires g c =
     let h = made c.self.inside.host_bytes c.self.inside.lanes c.self.inside.layout c.self.inside.front c.self.inside.closed.items c.self.inside.spare.items in
-    served-lent h c.args.self.now c.self.view_is c.self.invariant (g.C.MemoryCell.bytes c.args.memory.now) c.requires.lent
+    served-lent h c.args.self.now c.self.view_is c.self.invariant.served (g.C.MemoryCell.bytes c.args.memory.now) c.requires.lent
 
 pub returns-then-not-has_news-clause-pass : goal.returns-then-not-has_news-clause-pass
 returns-then-not-has_news-clause-pass g c =

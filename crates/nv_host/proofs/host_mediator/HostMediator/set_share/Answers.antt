@@ -12,7 +12,7 @@ returns-then-more-from-clause-err c =
     let there : slice_get o.setup.geometry.guests guest ≡ Some c.in-Some.given.now =
     ap (λ (x : Served). slice_get x.setup.geometry.guests guest) (sym c.self.view_is) ∙ c.in-Some.ensures in
     let known = slice_get-below c.self.inside.layout.guests guest c.in-Some.given.now c.in-Some.ensures in
-    let each = c.self.invariant.shares.each in
+    let each = c.self.invariant.served.shares.each in
     let at = c.from-at.ensures in
     let has : slice_get o.spare guest ≡ Some c.index.result.now =
     ap (λ (x : Served). slice_get x.spare guest) (sym c.self.view_is)
@@ -38,7 +38,7 @@ overflow_cast-more c =
     let o : Served = c.args.self.now in
     let guest : ℕ = c.args.guest in
     let known = slice_get-below c.self.inside.layout.guests guest c.in-Some.given.now c.in-Some.ensures in
-    let each = c.self.invariant.shares.each in
+    let each = c.self.invariant.served.shares.each in
     let at = c.from-at.ensures in
     let has : slice_get o.spare guest ≡ Some c.index.result.now =
     ap (λ (x : Served). slice_get x.spare guest) (sym c.self.view_is)
@@ -52,6 +52,6 @@ overflow_cast-more c =
 pub index_mut-requires : goal.index_mut-requires
 index_mut-requires c =
     let known = slice_get-below c.self.inside.layout.guests c.args.guest c.in-Some.given.now c.in-Some.ensures in
-    let each = c.self.invariant.shares.each in
+    let each = c.self.invariant.served.shares.each in
     let at = c.from-at.ensures in
     omega (arith, known, each, at)

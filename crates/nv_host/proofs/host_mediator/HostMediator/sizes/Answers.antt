@@ -7,4 +7,4 @@ use Rattle.nv_host.proofs.host_mediator.HostMediator.sizes.Goals as goal
 pub returns-clause-guests : goal.returns-clause-guests
 returns-clause-guests c =
     let h = made c.self.inside.host_bytes c.self.inside.lanes c.self.inside.layout c.self.inside.front c.self.inside.closed.items c.self.inside.spare.items in
-    subst (λ (x : Served). length x.setup.geometry.guests ≤ 16) c.self.view_is (few-guests h.setup c.self.invariant.accepted)
+    subst (λ (x : Served). length x.setup.geometry.guests ≤ 16) c.self.view_is (few-guests h.setup c.self.invariant.served.accepted)

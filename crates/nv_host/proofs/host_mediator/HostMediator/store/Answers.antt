@@ -9,7 +9,7 @@ use Rattle.nv_host.proofs.host_mediator.HostMediator.store.Goals as goal
 pub store-requires : goal.store-requires
 store-requires g c =
     let h = made c.self.inside.host_bytes c.self.inside.lanes c.self.inside.layout c.self.inside.front c.self.inside.closed.items c.self.inside.spare.items in
-    served-lent h c.args.self.now c.self.view_is c.self.invariant (g.C.MemoryCell.bytes c.args.memory.now) c.requires
+    served-lent h c.args.self.now c.self.view_is c.self.invariant.served (g.C.MemoryCell.bytes c.args.memory.now) c.requires
 
 pub returns-clause-done : goal.returns-clause-done
 returns-clause-done g c =
@@ -17,4 +17,4 @@ returns-clause-done g c =
     let before : List ℕ = g.C.MemoryCell.bytes c.args.memory.now in
     let after : List ℕ = g.C.MemoryCell.bytes c.store.new.host in
     subst (λ (x : Served). IsDone (event.Guest c.args.guest (act.Store c.args.addr c.args.bytes.now)) c.args.self.now before c.store.result x after) c.self.view_is
-    (call-done h c.args.self.now c.self.view_is c.self.invariant (event.Guest c.args.guest (act.Store c.args.addr c.args.bytes.now)) tt c.self.inside.front before after c.store.result c.store.ensures.step refl c.store.ensures.len)
+    (call-done h c.args.self.now c.self.view_is c.self.invariant.served (event.Guest c.args.guest (act.Store c.args.addr c.args.bytes.now)) tt c.self.inside.front before after c.store.result c.store.ensures.step refl c.store.ensures.len)

@@ -12,7 +12,7 @@ pub overflow_sub-left : goal.overflow_sub-left
 overflow_sub-left c =
     let o : Served = c.args.self.now in
     let i : ℕ = c.loop-guest.guest in
-    let are : AreShares o.setup.geometry.guests o.spare = subst (λ (x : Served). AreShares x.setup.geometry.guests x.spare) c.self.view_is c.self.invariant.shares in
+    let are : AreShares o.setup.geometry.guests o.spare = subst (λ (x : Served). AreShares x.setup.geometry.guests x.spare) c.self.view_is c.self.invariant.served.shares in
     let below : i < length c.self.inside.spare.items = (let t = c.loop-guest-test.true in let l = c.len-guest-end.ensures in omega arith) in
     let n = slice_get-there c.self.inside.spare.items i below in
     let enough = left-enough o.setup.geometry.guests o.spare are i c.loop-guest.left c.loop-guest.invariant c.in-Some.given.now n.0
@@ -26,7 +26,7 @@ pub overflow_sub-left-in-loop-guest : goal.overflow_sub-left-in-loop-guest
 overflow_sub-left-in-loop-guest c =
     let o : Served = c.args.self.now in
     let i : ℕ = c.loop-guest.guest in
-    let are : AreShares o.setup.geometry.guests o.spare = subst (λ (x : Served). AreShares x.setup.geometry.guests x.spare) c.self.view_is c.self.invariant.shares in
+    let are : AreShares o.setup.geometry.guests o.spare = subst (λ (x : Served). AreShares x.setup.geometry.guests x.spare) c.self.view_is c.self.invariant.served.shares in
     let below : i < length c.self.inside.spare.items = (let t = c.loop-guest-test.true in let l = c.len-guest-end.ensures in omega arith) in
     let has : slice_get o.spare i ≡ Some c.index.result.now =
     ap (λ (x : Served). slice_get x.spare i) (sym c.self.view_is) ∙ looked-up c.self.inside.spare.items i i c.index.result.now refl below c.index.ensures in
@@ -40,7 +40,7 @@ overflow_sub-left-in-loop-guest c =
           let left = w.left-is in
           omega (arith, enough, value, same, left, from))
       | in_default w ↦
-          (let each = c.self.invariant.shares.each in
+          (let each = c.self.invariant.served.shares.each in
           let g = slice_get-there c.self.inside.layout.guests i (omega (arith, each, below)) in
           absurd (none-some g.0 (sym w.in_default.ensures ∙ g.1)))
     ]
@@ -49,7 +49,7 @@ pub loop-guest-preserved : goal.loop-guest-preserved
 loop-guest-preserved c =
     let o : Served = c.args.self.now in
     let i : ℕ = c.loop-guest.guest in
-    let are : AreShares o.setup.geometry.guests o.spare = subst (λ (x : Served). AreShares x.setup.geometry.guests x.spare) c.self.view_is c.self.invariant.shares in
+    let are : AreShares o.setup.geometry.guests o.spare = subst (λ (x : Served). AreShares x.setup.geometry.guests x.spare) c.self.view_is c.self.invariant.served.shares in
     let below : i < length c.self.inside.spare.items = (let t = c.loop-guest-test.true in let l = c.len-guest-end.ensures in omega arith) in
     let has : slice_get o.spare i ≡ Some c.index.result.now =
     ap (λ (x : Served). slice_get x.spare i) (sym c.self.view_is) ∙ looked-up c.self.inside.spare.items i i c.index.result.now refl below c.index.ensures in
@@ -64,7 +64,7 @@ loop-guest-preserved c =
           next-counted o.setup.geometry.guests o.spare are i c.loop-guest.left c.loop-guest.invariant w.in-Some.given.now c.index.result.now there has
           (c.match-guest.left - c.from-left.result) (omega (arith, enough, value, same, left, from)))
       | in_default w ↦
-          (let each = c.self.invariant.shares.each in
+          (let each = c.self.invariant.served.shares.each in
           let g = slice_get-there c.self.inside.layout.guests i (omega (arith, each, below)) in
           absurd (none-some g.0 (sym w.in_default.ensures ∙ g.1)))
     ]
