@@ -121,6 +121,7 @@ bool guest_serve(guest *g, mediation *m, reason *r) {
     proxy_error e = proxy_receive(&g->link, clock_milliseconds());
     while (!g->resetting && e == PROXY_OK && (e = proxy_next(&g->link, &q, &there, clock_milliseconds())) == PROXY_OK && there) {
         m->due = true;
+        g->requests++;
         if (!carry_out(g, m, &q, &value, r)) return false;
         if (has_reply(q.kind) && !g->resetting) e = proxy_reply(&g->link, value);
     }

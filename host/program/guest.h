@@ -25,6 +25,7 @@ typedef struct guest {
     interrupt irq;
     closing closing; /* what its QEMUs gave */
     unsigned said;   /* lines on it in this second */
+    uint64_t requests; /* that its QEMUs have made */
 } guest;
 
 /* A guest without a QEMU. Its memory is there already. */

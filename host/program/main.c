@@ -16,6 +16,7 @@
 
 enum { ENDED = 0, FAILED = 1, USAGE = 2, DRIVE_FAILED = 3, POLLS = 3 * CONFIG_GUESTS, TICK = PAUSE_TICK / 1000 /* milliseconds */ };
 enum { LINES = 8 /* on a guest, in a second */ };
+enum { LOOKS = 8 /* of a program that makes no pause, one of which asks for all guests */ };
 
 typedef struct host {
     config config;
@@ -27,6 +28,8 @@ typedef struct host {
     statistics counts;
     guest guest[CONFIG_GUESTS];
     unsigned guests; /* that have begun */
+    const guest *last; /* that asked for something */
+    unsigned looks;
 } host;
 
 static volatile sig_atomic_t stopping;
@@ -134,11 +137,13 @@ static void fill(host *h, struct pollfd *polls) {
 /* Whether there was something of the guest's. */
 static bool serve(host *h, guest *g, const struct pollfd *p) {
     reason r;
-    bool there = p[0].revents || p[1].revents || p[2].revents || (g->connected && g->link.partial);
+    bool connected = g->connected;
+    uint64_t requests = g->requests;
     if (p[1].revents) guest_accept(g);
     if (p[2].revents && g->connected && !guest_acknowledged(g, &r)) lose(h, g, &r);
     if (g->connected && (p[0].revents || g->link.partial) && !guest_serve(g, &h->mediation, &r)) lose(h, g, &r);
-    return there;
+    if (g->requests != requests) h->last = g;
+    return p[1].revents || p[2].revents || g->requests != requests || g->connected != connected || (g->connected && g->link.partial);
 }
 
 /* What the drive was given in the last second, where that was asked for. */
@@ -176,6 +181,18 @@ static struct timespec longest_pause(const host *h) {
     return (struct timespec){(time_t)(microseconds / 1000000), (long)(microseconds % 1000000) * 1000};
 }
 
+/* Waits until a guest has something, or the pause is over, and notes who has. A program that makes no pause looks most times at the guest alone that asked last:
+ * the next request is most likely its, and is read one call of the system sooner. False where guests cannot be waited for. */
+static bool await(host *h, struct pollfd *polls) {
+    struct timespec most = longest_pause(h);
+    fill(h, polls);
+    if (h->last && h->last->connected && most.tv_sec == 0 && most.tv_nsec == 0 && ++h->looks % LOOKS) {
+        polls[3 * h->last->number].revents = POLLIN;
+        return true;
+    }
+    return ppoll(polls, 3 * h->guests, &most, NULL) >= 0 || errno == EINTR;
+}
+
 /* Until a signal comes, no guest is left, or the drive has failed and the guests were answered. The status of the program. */
 static int run(host *h) {
     struct pollfd polls[POLLS];
@@ -183,10 +200,7 @@ static int run(host *h) {
     uint64_t last = clock_milliseconds(), failed = 0;
     start_timer();
     while (!stopping && is_any_left(h)) {
-        struct timespec most = longest_pause(h);
-        fill(h, polls);
-        int ready = ppoll(polls, 3 * h->guests, &most, NULL);
-        if (ready < 0 && errno != EINTR) {
+        if (!await(h, polls)) {
             fprintf(stderr, "nvmed-host: guests cannot be waited for: %s\n", strerror(errno));
             return FAILED;
         }
