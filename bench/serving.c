@@ -11,7 +11,7 @@
 #include <time.h>
 #include <x86intrin.h>
 
-enum { IMAGE = 0x80000, BLOCKS = 64, SLOTS = 64, TURNS = 7, HELD = 63, FIRST = 0x100000, AREA = 0x4000000, HOST_BYTES = 0x9000000 };
+enum { IMAGE = 0x80000, BLOCKS = 64, SLOTS = 64, TURNS = 7, FIRST = 0x100000, AREA = 0x4000000, HOST_BYTES = 0x9000000 };
 enum { ADMIN_SQ = 0x10000, ADMIN_CQ = 0x11000, IO_CQ = 0x12000, IO_SQ = 0x13000, DATA = 0x20000 };
 
 typedef struct lane_drive {
@@ -202,18 +202,19 @@ static void measure(uint32_t guests, uint32_t lanes, uint32_t depth) {
     close_host(&h);
 }
 
-/* Guest 1 has one Read at a time, beside guest 0, which has 62 completed commands that wait for room, or none. */
-static double beside(int held) {
+/* Guest 1 has one Read at a time, beside guest 0, which has so many commands on each lane that wait for room, but for one; or none. */
+static double beside(uint32_t lanes, uint32_t share) {
     static host h;
     double best = 0;
-    open_host(&h, 2, 1, 1, held ? 2 : SLOTS);
+    uint32_t held = share * lanes;
+    open_host(&h, 2, lanes, 1, held ? 2 : SLOTS);
     if (held) {
-        if (nvmed_share(&h.mediator, 1, 1) != NVMED_OK || nvmed_share(&h.mediator, 0, HELD) != NVMED_OK) give_up("nvmed_share refused");
-        h.depth = HELD;
+        if (nvmed_share(&h.mediator, 1, 1) != NVMED_OK || nvmed_share(&h.mediator, 0, share) != NVMED_OK) give_up("nvmed_share refused");
+        h.depth = held;
         send(&h, 0);
-        work(&h, 2 * HELD);
+        work(&h, 2 * held);
         complete_all(&h);
-        work(&h, HELD + 1);
+        work(&h, held + 1);
         h.depth = 1;
     }
     for (int k = 0; k < TURNS; k++) {
@@ -239,6 +240,7 @@ int main(void) {
         for (int l = 0; l < 2; l++)
             for (int d = 0; d < 2; d++)
                 if (guests[g] * depths[d] / (guests[g] < lanes[l] ? guests[g] : lanes[l]) <= 64) measure(guests[g], lanes[l], depths[d]);
-    printf("a Read beside a guest without commands, and with 62 that wait for room: %.0f and %.0f ns\n", beside(0), beside(1));
+    printf("a Read beside a guest without commands, and with 62 that wait for room: %.0f and %.0f ns\n", beside(1, 0), beside(1, 63));
+    printf("the same on 8 lanes, beside none and beside 55 that wait: %.0f and %.0f ns\n", beside(8, 0), beside(8, 7));
     return 0;
 }
