@@ -1,9 +1,9 @@
 //! The tags of a lane: those whose commands are at one point, and how many a guest has.
 
-ghost use Rattle.std.specs.Prelude.{◌≡◌, ◌<◌, slice_get};
+ghost use Rattle.std.specs.Prelude.{◌≡◌, ◌<◌, length, nat_lt, slice_get};
 ghost use Rattle.nv_core.specs.Held.{held_in};
 ghost use Rattle.nv_core.specs.Kept.{IsLent};
-ghost use Rattle.nv_core.specs.News.{has_news, is_busy, tags_at};
+ghost use Rattle.nv_core.specs.News.{has_news, is_busy, others, tags_at};
 ghost use Rattle.nv_core.specs.Tags.{ended_in, flying_in, taken_in};
 ghost use Rattle.nv_vctl.specs.Next.{IsNext};
 ghost use Rattle.nv_world_model.specs.SetUp.{most_guests};
@@ -49,9 +49,21 @@ impl Front {
         if taken.pop().is_some() {
             return true;
         }
+        self.has_ended(lane, held) || self.reap_due(layout, lane, host)
+    }
+
+    // Whether some part of a lane has ended that is none of these. They are looked at only where some part has.
+    #[inline(always)]
+    fn has_ended(&self, lane: u8, held: &[u64]) -> bool
+        ensures { result ≡ nat_lt 0 (length (others (tags_at held.now lane) (ended_in (slice_get self.now.lanes lane)))) }
+    {
         let mut ended = self.ended(lane);
-        ended.drop_all(tags_at(held, lane));
-        ended.pop().is_some() || self.reap_due(layout, lane, host)
+        if ended.pop().is_none() {
+            return false;
+        }
+        let mut others = self.ended(lane);
+        others.drop_all(tags_at(held, lane));
+        others.pop().is_some()
     }
 
     /// The first lane, from number `from` on and below number `to`, of which something may be due: a command waits for its plan, some part has ended that
