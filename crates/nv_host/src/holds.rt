@@ -1,7 +1,8 @@
 //! Commands that wait for room in their guests' completion queues, as they are noted.
 //!
-//! Such a command is noted where its Post was not due for that reason, and not any more once its guest's controller may have changed. So whoever looks for
-//! what is due passes it by, and a guest that never looks at its completions costs others nothing.
+//! Such a command is noted where its Post was not due for that reason. All notes are dropped once the controller of a guest that has some may have changed,
+//! and a Take drops those of its lane whose parts have not ended. Whoever looks for what is due passes by what is noted, so a guest that never looks at its
+//! completions costs others nothing.
 
 ghost use Rattle.std.specs.Prelude.{◌≡◌, ◌<◌, ◌==◌, ◌||◌, ◌&&◌, ℕ, not};
 ghost use Rattle.std.specs.List.{list_any};

@@ -33,7 +33,7 @@ impl HostMediator {
     ///
     /// A round costs what its events cost, and a look at each lane. Tags are looked at where their commands wait or have ended, and guests where a note says that
     /// something may be due of their queues; the note is made when the guest's controller changes. A command that waits for room in its guest's completion queue
-    /// is looked at once, and then not before its guest's controller has changed.
+    /// is noted when it is looked at, and then passed by until the controller of a guest with such commands changes.
     ///
     /// A guest's next command is taken for a lane only where the guest has so few tags there that the command may need whatever it can
     /// ([`HostMediator::set_share`]). So a call leaves each guest within its share of a lane where it was; and since all shares together are no more than a
