@@ -1,5 +1,6 @@
 # A part of bench/vm.sh: fio in one Linux guest, on the program and on QEMU's own NVMe controller by turns. The guest has both drives, with equal images, and
-# each job's turns follow one another, a second each: a machine whose own speed changes meets both alike.
+# each job's turns follow one another, a second each: a machine whose own speed changes meets both alike. The images are in RAM: a disk that is written in the
+# background holds up stores into a mapped file, which are what the program's drive makes of Writes.
 #
 # QEMU's own controller lets Linux write most doorbells into memory (Doorbell Buffer Config): a doorbell's register is written only where the controller has
 # said, in memory, too, that it waits for it. With one processor QEMU 7.2's TCG leaves the guest's memory barriers out, so that such a doorbell can get lost: then
@@ -78,12 +79,13 @@ note_turns() {
 # The guest at work on both drives, up to its end.
 on_both() {
     local now spent=0 status=0 ended=0 before=(0 0)
-    cp "$room/image" "$room/own"
+    cp "$room/image" "$shared/image"
+    cp "$room/image" "$shared/own"
     {
-        echo "drive ram $(stat -c %s "$room/image") $room/image"
+        echo "drive ram $(stat -c %s "$shared/image") $shared/image"
         echo "spin $spin"
         guest_lines 0 speed "$kernel_words" | sed "s/^start 0 qemu/start 0 ${on_others[*]} qemu/"
-        echo "start 0 -smp 1,maxcpus=2 -drive file=$room/own,format=raw,if=none,id=own -device nvme,drive=own,serial=own,max_ioqpairs=8 -name speed,debug-threads=on"
+        echo "start 0 -smp 1,maxcpus=2 -drive file=$shared/own,format=raw,if=none,id=own -device nvme,drive=own,serial=own,max_ioqpairs=8 -name speed,debug-threads=on"
     } > "$room/configuration"
     wrapper=("${on_last[@]}" "${wrapper[@]}")
     keep_awake
