@@ -1,5 +1,5 @@
 -- What a script and a text come to, step by step
-use Rattle.std.proofs.Common.{◌≡◌, ◌⊎◌, ℕ, List, Option, Some, None, Ok, Err, refl, ap, ◌∙◌, inl, inr}
+use Rattle.std.proofs.Common.{◌≡◌, ◌⊎◌, ℕ, List, Option, Some, None, Result, Ok, Err, refl, ap, ◌∙◌, inl, inr}
 use Rattle.nv_replay_script.specs.ReplayScript.{ScriptValue, script_of}
 use Rattle.nv_once_script.specs.declared.once.fault.ScriptFault.{ScriptFault}
 use Rattle.nv_once_script.specs.declared.once.fault.ScriptFault.TheVariants as script
@@ -71,3 +71,7 @@ accepted-refused set_up refusal (inr (no_memory, none)) = inl (ap of_refusal no_
 -- and one whose world is
 pub accepted-opened : (set_up opened : SetUp) → refusal_of set_up ≡ None → opened ≡ set_up → accepted set_up ≡ Ok opened
 accepted-opened set_up opened none same = rw (none, same) refl
+
+-- a set-up that was opened, by another name
+pub opened-as : (wanted : Result SetUp ReplayFault) (s t : SetUp) → wanted ≡ Ok s → t ≡ s → wanted ≡ Ok t
+opened-as wanted s t is same = rw same is

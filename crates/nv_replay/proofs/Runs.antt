@@ -1,11 +1,12 @@
 -- Events that are answered one after another, and the lines of their replies
-use Rattle.std.proofs.Common.{◌≡◌, ℕ, ◌+◌, List, [], ◌∷◌, ◌++◌, length, Option, Result, Ok, Err, OnOk, refl, sym, ap, ◌∙◌, arith, append_assoc, inl, inr, subst, length-append}
+use Rattle.std.proofs.Common.{◌≡◌, ℕ, ◌+◌, ◌<◌, suc, List, [], ◌∷◌, ◌++◌, length, drop, get_or, Option, Result, Ok, Err, OnOk, refl, sym, ap, ◌∙◌, arith, append_assoc, inl, inr, subst, length-append}
+use Rattle.std.proofs.Math.Seq.{drop-cons}
 use Rattle.std.proofs.lemmas.List.{append-nil}
 use Rattle.std.specs.Io.KnownBytes.{Appends}
+use Rattle.nv_mediator.specs.Hosted.{Hosted, IsAtStart, IsMade, hosted_world, setup_of}
 use Rattle.nv_model.specs.declared.reply.Reply.{Reply}
 use Rattle.nv_model.specs.declared.reply.Reply.TheVariants as reply
 use Rattle.nv_print.proofs.Growing.{Appends-nothing, Appends-then}
-use Rattle.nv_world.specs.Mediated.{IsStepped, Mediated, opened}
 use Rattle.nv_world_model.specs.Geometry.{Geometry}
 use Rattle.nv_world_model.specs.SetUp.{SetUp, world_at_start}
 use Rattle.nv_world_model.specs.World.{World}
@@ -50,35 +51,40 @@ pub AnswersSoFar-all : (geometry : Geometry) (first last : World) (all : List Ev
 unfolding AreAnswered
 AnswersSoFar-all geometry first last all replies so_far = rw append-nil at (so_far [] last refl)
 
--- ---- along a world
+-- ---- along a mediator
 
--- a step answers its event, and keeps the set-up
-IsStepped-answers : (set_up : SetUp) (event : Event) (old new : Mediated) (reply : Reply)
-    → old.setup ≡ set_up → IsStepped event old reply new
-    → IsAnswered set_up.geometry old.world event reply new.world × (new.setup ≡ set_up)
-IsStepped-answers set_up event old new reply kept (inl (none, same)) = (inl (none, ap (λ m. m.world) same), ap (λ r. r.setup) same ∙ kept)
-IsStepped-answers set_up event old new reply kept (inr done) = (inr (rw (← kept) done.after), done.setup ∙ kept)
+-- the events that are left begin with the next one
+pub drop-next : (all : List Event) (at : ℕ) (e : Event) → at < length all → e ≡ get_or all at e → drop at all ≡ e ∷ drop (at + 1) all
+drop-next all at e below is =
+    let next : suc at ≡ at + 1 = omega arith in
+    drop-cons all at e below ∙ ap (λ x. x ∷ drop (suc at) all) (sym is) ∙ ap (λ n. e ∷ drop n all) next
+
+-- an event that was carried out has the line of its reply
+pub PrintsStep-made : {E : Type 0} → (n : ℕ) (e : Event) (old new : Hosted) (u v : Option (List ℕ)) (reply : Reply) (r : Result (Unit {0}) E)
+    → IsMade e old reply new → OnOk r (Appends u v (reply_line n reply)) → OnOk r (PrintsStep n e old new u v)
+PrintsStep-made n e old new u v reply (Err error) made line = tt
+PrintsStep-made n e old new u v reply (Ok x) made line = (reply, inr made.after, made.setup, line)
 
 -- an event for which there was no memory has that line
-pub PrintsStep-none : {E : Type 0} → (n : ℕ) (e : Event) (old new : Mediated) (u v : Option (List ℕ)) (r : Result (Unit {0}) E)
+pub PrintsStep-none : {E : Type 0} → (n : ℕ) (e : Event) (old new : Hosted) (u v : Option (List ℕ)) (r : Result (Unit {0}) E)
     → new ≡ old → OnOk r (Appends u v (reply_line n reply.NoMemory)) → OnOk r (PrintsStep n e old new u v)
 PrintsStep-none n e old new u v (Err error) same line = tt
-PrintsStep-none n e old new u v (Ok x) same line = (reply.NoMemory, inl (refl, same), line)
+PrintsStep-none n e old new u v (Ok x) same line = (reply.NoMemory, inl (refl, ap hosted_world same), ap setup_of same, line)
 
 -- an output has grown by the lines of so many replies, and these answer the events before those that are left
-pub record RunsSoFar (replay : ReplayValue) (u v : Option (List ℕ)) (count : ℕ) (now : Mediated) (left : List Event) : Type 0 where
+pub record RunsSoFar (replay : ReplayValue) (u v : Option (List ℕ)) (count : ℕ) (now : Hosted) (left : List Event) : Type 0 where
   pub replies : List Reply
   pub printed : Appends u v (reply_lines 1 replies)
   pub counted : count ≡ length replies
-  pub answered : AnswersSoFar replay.set_up.geometry (world_at_start replay.set_up) replay.events replies now.world left
-  pub kept : now.setup ≡ replay.set_up
+  pub answered : AnswersSoFar replay.set_up.geometry (world_at_start replay.set_up) replay.events replies (hosted_world now) left
+  pub kept : setup_of now ≡ replay.set_up
 
--- a world that was just opened
-pub RunsSoFar-none : (replay : ReplayValue) (u : Option (List ℕ)) (now : Mediated) (left : List Event)
-    → now.setup ≡ replay.set_up → now ≡ opened now.setup → left ≡ replay.events → RunsSoFar replay u u 0 now left
+-- at the start of a set-up
+pub RunsSoFar-none : (replay : ReplayValue) (u : Option (List ℕ)) (now : Hosted) (left : List Event)
+    → setup_of now ≡ replay.set_up → IsAtStart (setup_of now) now → left ≡ replay.events → RunsSoFar replay u u 0 now left
 unfolding reply_lines
 RunsSoFar-none replay u now left kept fresh all =
-    let first : now.world ≡ world_at_start replay.set_up = ap (λ m. m.world) fresh ∙ ap world_at_start kept in
+    let first : hosted_world now ≡ world_at_start replay.set_up = fresh.world ∙ ap world_at_start kept in
     record {
       replies = [];
       printed = Appends-nothing u;
@@ -88,28 +94,26 @@ RunsSoFar-none replay u now left kept fresh all =
     }
 
 -- one more event
-pub RunsSoFar-then : (replay : ReplayValue) (u v w : Option (List ℕ)) (count : ℕ) (old new : Mediated) (event : Event) (reply : Reply)
-    (left all : List Event)
-    → RunsSoFar replay u v count old all → all ≡ event ∷ left → IsStepped event old reply new
-    → Appends v w (reply_line (count + 1) reply)
+pub RunsSoFar-then : (replay : ReplayValue) (u v w : Option (List ℕ)) (count : ℕ) (old new : Hosted) (event : Event) (left all : List Event)
+    → RunsSoFar replay u v count old all → all ≡ event ∷ left → PrintsStep (count + 1) event old new v w
     → RunsSoFar replay u w (count + 1) new left
-RunsSoFar-then replay u v w count old new event reply left all so_far turn stepped more =
+RunsSoFar-then replay u v w count old new event left all so_far turn (reply, stepped, same, more) =
     let geometry = replay.set_up.geometry in
     let first = world_at_start replay.set_up in
-    let (answered, kept) = IsStepped-answers replay.set_up event old new reply so_far.kept stepped in
+    let answered = subst (λ (s : SetUp). IsAnswered s.geometry (hosted_world old) event reply (hosted_world new)) so_far.kept stepped in
     let number : 1 + length so_far.replies ≡ count + 1 = omega (arith, so_far.counted) in
     let line = reply_lines-then 1 so_far.replies reply ∙ ap (λ n. reply_lines 1 so_far.replies ++ reply_line n reply) number in
     record {
       replies = so_far.replies ++ reply ∷ [];
       printed = rw line (Appends-then u v w (reply_lines 1 so_far.replies) (reply_line (count + 1) reply) so_far.printed more);
       counted = omega (arith, so_far.counted, length-append so_far.replies (reply ∷ []));
-      answered = AnswersSoFar-then geometry first old.world new.world replay.events so_far.replies event reply left
+      answered = AnswersSoFar-then geometry first (hosted_world old) (hosted_world new) replay.events so_far.replies event reply left
           (rw turn at so_far.answered) answered;
-      kept = kept;
+      kept = same ∙ so_far.kept;
     }
 
--- behind the last event
-pub RunsSoFar-all : {E : Type 0} → (replay : ReplayValue) (u v w : Option (List ℕ)) (count : ℕ) (now : Mediated) (left : List Event)
+-- after the last event
+pub RunsSoFar-all : {E : Type 0} → (replay : ReplayValue) (u v w : Option (List ℕ)) (count : ℕ) (now : Hosted) (left : List Event)
     (r : Result (Unit {0}) E)
     → RunsSoFar replay u v count now left → left ≡ [] → OnOk r (Appends v w (count_line count)) → OnOk r (PrintsReplay replay u w)
 unfolding shown
@@ -118,8 +122,8 @@ RunsSoFar-all replay u v w count now left (Ok x) so_far none more =
     let last = subst (λ n. Appends v w (count_line n)) so_far.counted more in
     let geometry = replay.set_up.geometry in
     let first = world_at_start replay.set_up in
-    let answered = AnswersSoFar-all geometry first now.world replay.events so_far.replies (rw none at so_far.answered) in (
+    let answered = AnswersSoFar-all geometry first (hosted_world now) replay.events so_far.replies (rw none at so_far.answered) in (
       shown so_far.replies,
       Appends-then u v w (reply_lines 1 so_far.replies) (count_line (length so_far.replies)) so_far.printed last,
-      (so_far.replies, now.world, answered, refl),
+      (so_far.replies, hosted_world now, answered, refl),
     )

@@ -2,10 +2,10 @@
 use Rattle.std.specs.Prelude.{◌≡◌, ◌⊎◌, ℕ, ◌+◌, List, [], ◌∷◌, ◌++◌, length, codes, Option, IfSome, Ok}
 use Rattle.std.specs.Fmt.{decimal}
 use Rattle.std.specs.Io.KnownBytes.{Appends}
+use Rattle.nv_mediator.specs.Hosted.{Hosted, hosted_world, setup_of}
 use Rattle.nv_model.specs.declared.reply.Reply.{Reply}
 use Rattle.nv_model.specs.declared.reply.Reply.TheVariants.{Done, Bytes, Idle, Busy, Held, Stale, Unmapped, Ignored, NoMemory}
 use Rattle.nv_print.specs.Printed.{dump_line, line_feed}
-use Rattle.nv_world.specs.Mediated.{IsStepped, Mediated}
 use Rattle.nv_world_model.specs.Geometry.{Geometry}
 use Rattle.nv_world_model.specs.SetUp.{world_at_start}
 use Rattle.nv_world_model.specs.Step.{step}
@@ -62,9 +62,10 @@ AreAnswered geometry old (event ∷ events) (reply ∷ replies) new =
 -- ---- a run
 
 -- an event was carried out, or there was no memory for it, and an output has grown by the line of its reply
-abbrev pub PrintsStep : (n : ℕ) → Event → (old new : Mediated) → (before after : Option (List ℕ)) → Type 0
+abbrev pub PrintsStep : (n : ℕ) → Event → (old new : Hosted) → (before after : Option (List ℕ)) → Type 0
 PrintsStep n event old new before after =
-    (reply : Reply) × IsStepped event old reply new × Appends before after (reply_line n reply)
+    (reply : Reply) × IsAnswered old.geometry (hosted_world old) event reply (hosted_world new) × (setup_of new ≡ setup_of old)
+    × Appends before after (reply_line n reply)
 
 -- what a run prints
 abbrev pub IsPrinted : ReplayValue → (printed : List ℕ) → Type 0

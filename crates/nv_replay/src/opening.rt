@@ -1,7 +1,8 @@
-//! From a text to the world that its script opens.
+//! From a text to the mediator that its script opens.
 ghost use Rattle.std.specs.Prelude.{◌≡◌, map, IfOk, MatchResult, None};
 ghost use Rattle.nv_replay_script.specs.ReplayScript.{script_value};
 ghost use Rattle.nv_replay_script.specs.ReplaySetUp.{guest_value};
+ghost use Rattle.nv_mediator.specs.Hosted.{IsAtStart, setup_of};
 ghost use Rattle.nv_world.specs.Mediated.{mediated, opened};
 ghost use Rattle.nv_world_model.specs.SetUp.{refusal_of};
 ghost use Rattle.nv_replay.specs.Opening.{IsFaultOf, IsRefusalOf, extent_written, guests_from, limit_of, mapped_guest};
@@ -10,13 +11,14 @@ ghost use Rattle.nv_replay.specs.Opening.{opened_by, replay_of, set_up_of};
 use crate::fault::ReplayFault;
 use crate::refusal::SetUpRefusal;
 use crate::replay::Replay;
+use nv_mediator::Mediator;
 use nv_mem::GuestMap;
 use nv_model::limits::MOST_DESCRIPTORS;
 use nv_replay_script::{ExtentLine, GuestSetUp, Script, Sizes, parse};
 use nv_world::{Extent, GuestSetup, Setup, World};
 use std::alloc::{AllocError, Global};
 
-/// Reads a script whole, and opens its world.
+/// Reads a script whole, and opens its mediator.
 ///
 /// # Errors
 ///
@@ -28,7 +30,7 @@ pub fn read(alloc: Global, text: &[u8]) -> Result<Replay, ReplayFault>
     open(alloc, script)
 }
 
-// Opens the world of a script.
+// Opens the mediator of a script.
 fn open(alloc: Global, script: Script) -> Result<Replay, ReplayFault>
     ensures { let wanted = opened_by (script_value script)
         in MatchResult result (λ replay. wanted ≡ Ok replay) (IsFaultOf wanted) }
@@ -38,8 +40,8 @@ fn open(alloc: Global, script: Script) -> Result<Replay, ReplayFault>
         guests,
         events,
     } = script;
-    let world = open_world(alloc, sizes, guests)?;
-    Ok(Replay::new(world, events))
+    let mediator = open_mediator(alloc, sizes, guests)?;
+    Ok(Replay::new(mediator, events))
 }
 
 /// Opens the world of a script's sizes and guests: the guests' maps in order, then the set-up.
@@ -57,6 +59,21 @@ pub fn open_world(
     ensures fresh { IfOk result (λ world. mediated world ≡ opened (mediated world).setup) }
     ensures accepted { IfOk result (λ world. refusal_of (mediated world).setup ≡ None) }
 {
+    let mediator = open_mediator(alloc, sizes, guests)?;
+    Ok(World::of(alloc, mediator))
+}
+
+// Opens the mediator of a script's sizes and guests: the guests' maps in order, then the set-up.
+fn open_mediator(
+    alloc: Global,
+    sizes: Sizes,
+    guests: Vec<GuestSetUp>,
+) -> Result<Mediator, ReplayFault>
+    ensures opened { let wanted = set_up_of sizes (map guest_value guests.items)
+        in MatchResult result (λ mediator. wanted ≡ Ok (setup_of mediator)) (IsFaultOf wanted) }
+    ensures fresh { IfOk result (λ mediator. IsAtStart (setup_of mediator) mediator) }
+    ensures accepted { IfOk result (λ mediator. refusal_of (setup_of mediator) ≡ None) }
+{
     let guests = map_guests(alloc, sizes.host, guests)?;
     let setup = Setup {
         host_bytes: sizes.host,
@@ -65,8 +82,8 @@ pub fn open_world(
         lanes: sizes.lanes,
         guests,
     };
-    let world = World::new(alloc, setup)?;
-    Ok(world)
+    let mediator = Mediator::new(alloc, setup)?;
+    Ok(mediator)
 }
 
 // The guests with their maps, in order.

@@ -1,12 +1,13 @@
 //! The world, with the log of what has happened in it.
 
 ghost use Rattle.std.specs.Prelude.{◌≡◌, ◌⊎◌, IfOk, IfErr, IfSome, MatchOption, None, Some, slice_get};
+ghost use Rattle.nv_mediator.specs.Hosted.{IsAtStart};
 ghost use Rattle.nv_core.specs.State.{world_of};
 ghost use Rattle.nv_core.specs.Submit.{IsLimit};
 ghost use Rattle.nv_world.specs.Mediated.{IsContained, KeepsPromise, limit_of, map_of, mediated, opened, range_of, setup_of};
 ghost use Rattle.nv_world.specs.Refused.{refused};
 ghost use Rattle.nv_world_model.specs.Log.{IsReplay};
-ghost use Rattle.nv_world_model.specs.SetUp.{refusal_of, world_at_start};
+ghost use Rattle.nv_world_model.specs.SetUp.{SetUp, refusal_of, world_at_start};
 
 use nv_mediator::{Mediator, Refusal, Setup};
 use nv_mem::GuestMap;
@@ -47,10 +48,18 @@ impl World {
         ensures err { IfErr result (λ refusal. (refused (refusal_of setup) ≡ Some refusal) ⊎ ((refusal ≡ Refusal.NoMemory) × (refusal_of setup ≡ None))) }
     {
         let mediator = Mediator::new(alloc, setup)?;
-        Ok(World {
+        Ok(World::of(alloc, mediator))
+    }
+
+    /// The world of a mediator at the start of its set-up, with an empty log.
+    pub fn of(alloc: Global, mediator: Mediator) -> Self
+        requires { (setup : SetUp) × IsAtStart setup mediator }
+        ensures { (setup : SetUp) → IsAtStart setup mediator → mediated result ≡ opened setup }
+    {
+        World {
             mediator,
             log: Vec::new(alloc),
-        })
+        }
     }
 
     /// The events so far, each with its reply, in order. The world is where they lead, from the start of the set-up on, and each is contained:
