@@ -17,7 +17,7 @@ turn() {
     echo "speed $1 $3 $(awk -F ';' '$1 == 3 { print $8 + $49 }' /tmp/fio)"
 }
 while read -r job; do
-    for number in 1 2 3 4 5 6 7 8 9; do
+    for number in $(seq 13); do
         order="program QEMU"
         [ $((number % 2)) = 1 ] || order="QEMU program"
         for whose in $order; do
