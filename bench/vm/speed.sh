@@ -18,7 +18,7 @@ source "$top/bench/vm/linux.sh"
 
 # that bench/vm/parts/speed.sh has: jobs, and turns of each on either drive
 jobs=5
-turns=13
+turns=9
 # hundredths of QEMU's own speed that the program's has to have: 5 are noise
 least=95
 # hundredths of the processors that may be taken away from a turn that counts, and the pairs of turns of a job that have to count
@@ -52,17 +52,6 @@ place_threads() {
     done > "$room/output" 2>&1 || true
 }
 
-# Keeps the processors from falling asleep, by threads that run where nothing else does: to wake one takes a virtual machine tens of microseconds, now more
-# and now less, which is as long as a command.
-keep_awake() {
-    local number
-    awake=()
-    for ((number = 0; number < $(nproc); number++)); do
-        chrt --idle 0 taskset -c "$number" bash -c 'while :; do :; done' &
-        awake+=($!)
-    done
-}
-
 # Notes with each turn that has ended since the last call how many hundredths of the processors were taken away meanwhile.
 note_turns() {
     local lines ticks
@@ -88,7 +77,6 @@ on_both() {
         echo "start 0 -smp 1,maxcpus=2 -drive file=$shared/own,format=raw,if=none,id=own -device nvme,drive=own,serial=own,max_ioqpairs=8 -name speed,debug-threads=on"
     } > "$room/configuration"
     wrapper=("${on_last[@]}" "${wrapper[@]}")
-    keep_awake
     begin_host "$room/configuration" --statistics
     while ((SECONDS < limit)) && kill -0 "$host" 2> /dev/null; do
         now=$(processor)
@@ -98,7 +86,6 @@ on_both() {
         sleep 0.1
     done
     note_turns
-    kill "${awake[@]}" || true
     host_ended 0 || status=1
     echo "$spent $(commands)" > "$room/spent"
     tr -d '\r' < "$room/serial.0" | sed -n 's/^speed //p' | paste -d ' ' - "$room/taken" > "$room/speed"
