@@ -18,12 +18,12 @@ source "$top/bench/vm/linux.sh"
 
 # that bench/vm/parts/speed.sh has: jobs, and turns of each on either drive
 jobs=5
-turns=9
+turns=21
 # hundredths of QEMU's own speed that the program's has to have: 5 are noise
 least=95
 # hundredths of the processors that may be taken away from a turn that counts, and the pairs of turns of a job that have to count
 most_taken=1
-fewest=3
+fewest=5
 # the queues that are measured have no interrupt
 kernel_words="nvme=poll_queues=1"
 # of the program: microseconds without a pause after its last event
