@@ -18,7 +18,7 @@ source "$top/bench/vm/linux.sh"
 
 # that bench/vm/parts/speed.sh has: jobs, and turns of each on either drive
 jobs=5
-turns=21
+turns=15
 # hundredths of QEMU's own speed that the program's has to have: 5 are noise
 least=95
 # hundredths of the processors that may be taken away from a turn that counts, and the pairs of turns of a job that have to count

@@ -17,7 +17,7 @@ turn() {
     echo "speed $1 $3 $(awk -F ';' '$1 == 3 { print $8 + $49 }' /tmp/fio)"
 }
 while read -r job; do
-    for number in $(seq 21); do
+    for number in $(seq 15); do
         order="program QEMU"
         [ $((number % 2)) = 1 ] || order="QEMU program"
         for whose in $order; do
