@@ -135,8 +135,19 @@ static proxy_error fail(proxy *p, proxy_error e) {
     return e;
 }
 
+static void queue(proxy *p, const uint8_t *bytes, size_t length) {
+    for (size_t i = 0; i < length; i++) p->out[(p->out_from + p->out_count + i) % sizeof p->out] = bytes[i];
+    p->out_count += length;
+}
+
+static void queue_header(proxy *p) {
+    static const uint8_t header[PROXY_HEADER] = {RET, [8] = 8};
+    queue(p, header, sizeof header);
+}
+
 proxy_error proxy_open(proxy *p, int fd, closing *c) {
     *p = (proxy){.fd = fd, .closing = c};
+    queue_header(p);
     if (fd < 0) return PROXY_OK;
     int flags = fcntl(fd, F_GETFL);
     if (flags >= 0 && fcntl(fd, F_SETFL, flags | O_NONBLOCK) == 0 && fcntl(fd, F_SETFD, FD_CLOEXEC) == 0) return PROXY_OK;
@@ -239,7 +250,11 @@ static void consume(proxy *p, size_t bytes, unsigned count) {
     p->fd_count -= count;
 }
 
-static size_t waiting(const proxy *p) { return p->asked + (p->out_count + PROXY_REPLY - 1) / PROXY_REPLY; }
+/* Bytes that are queued of replies: the next one's header comes after them. */
+static size_t replies_out(const proxy *p) { return p->out_count > PROXY_HEADER ? p->out_count - PROXY_HEADER : 0; }
+
+/* Replies that were not given yet, or of which a byte is queued. */
+static size_t waiting(const proxy *p) { return p->asked + (replies_out(p) + PROXY_REPLY - 1) / PROXY_REPLY; }
 
 proxy_error proxy_next(proxy *p, proxy_request *q, bool *there, uint64_t now) {
     size_t bytes;
@@ -266,31 +281,38 @@ proxy_error proxy_next(proxy *p, proxy_request *q, bool *there, uint64_t now) {
 }
 
 proxy_error proxy_reply(proxy *p, uint64_t value) {
-    uint8_t reply[PROXY_REPLY] = {RET, 0, 0, 0, 0, 0, 0, 0, 8};
+    uint8_t bytes[PROXY_REPLY - PROXY_HEADER];
     if (p->error != PROXY_OK) return p->error;
     if (p->asked == 0) return PROXY_UNASKED;
-    put64(reply + PROXY_HEADER, value);
-    for (size_t i = 0; i < PROXY_REPLY; i++) p->out[(p->out_from + p->out_count + i) % sizeof p->out] = reply[i];
-    p->out_count += PROXY_REPLY;
+    put64(bytes, value);
+    queue(p, bytes, sizeof bytes);
+    queue_header(p);
     p->asked--;
     return PROXY_OK;
 }
 
-proxy_error proxy_flush(proxy *p) {
-    while (p->error == PROXY_OK && p->out_count > 0) {
+/* Writes so many bytes of what is queued, so many at once at most. What the socket doesn't take now stays queued. */
+static proxy_error put_out(proxy *p, size_t bytes, size_t most) {
+    while (p->error == PROXY_OK && bytes > 0) {
         size_t row = sizeof p->out - p->out_from;
-        if (row > p->out_count) row = p->out_count;
+        if (row > bytes) row = bytes;
+        if (row > most) row = most;
         ssize_t put = send(p->fd, p->out + p->out_from, row, MSG_NOSIGNAL | MSG_DONTWAIT);
         if (put < 0 && errno == EINTR) continue;
         if (put < 0 && (errno == EAGAIN || errno == EWOULDBLOCK)) return PROXY_OK;
         if (put < 0) return fail(p, errno == EPIPE || errno == ECONNRESET ? PROXY_CLOSED : PROXY_BROKEN);
         p->out_from = (p->out_from + (size_t)put) % sizeof p->out;
         p->out_count -= (size_t)put;
+        bytes -= (size_t)put;
     }
     return p->error;
 }
 
-bool proxy_pending(const proxy *p) { return p->error == PROXY_OK && p->out_count > 0; }
+proxy_error proxy_flush(proxy *p) { return put_out(p, replies_out(p), sizeof p->out); }
+
+proxy_error proxy_send_ahead(proxy *p) { return proxy_pending(p) ? PROXY_OK : put_out(p, p->out_count, PROXY_PIECE); }
+
+bool proxy_pending(const proxy *p) { return p->error == PROXY_OK && replies_out(p) > 0; }
 
 proxy_error proxy_check(proxy *p, uint64_t now) {
     if (p->error == PROXY_OK && p->partial && now - p->partial_since >= PROXY_STALL) return fail(p, PROXY_STALLED);

@@ -4,6 +4,10 @@
  * little-endian. File descriptors come in an SCM_RIGHTS message beside it. QEMU waits for the reply of each message that has one, so that one is
  * outstanding at a time.
  *
+ * All replies have one header, RET with 8 bytes, so that only the value says something. QEMU reads a reply in two calls of the system, header and value. So the
+ * header of the next reply can be sent ahead, in pieces: QEMU finds it when it looks, and while it takes the pieces the value comes, so that it need not fall
+ * asleep and be woken, which takes longer than all else of a request.
+ *
  * Nothing here blocks, and no call allocates memory, but to close descriptors (closing.h). After an error a connection only can be closed; nothing of another
  * connection is concerned. */
 #ifndef HOST_PROXY_H
@@ -20,8 +24,9 @@ enum {
     PROXY_HEADER = 16, /* bytes */
     PROXY_DATA = 192,  /* most bytes after a header, those of SYNC_SYSMEM */
     PROXY_MESSAGE = PROXY_HEADER + PROXY_DATA,
-    PROXY_REPLY = 24,   /* bytes of a reply */
+    PROXY_REPLY = 24,   /* bytes of a reply: a header and a value */
     PROXY_REPLIES = 16, /* most replies that wait to be written or to be given */
+    PROXY_PIECE = 4,    /* bytes of a header that goes ahead: with two pieces QEMU often falls asleep, and eight take it longer than they save */
     PROXY_CONFIG = 256, /* bytes of configuration space */
     PROXY_STALL = 10000 /* milliseconds after which the rest of a message is not waited for */
 };
@@ -115,8 +120,8 @@ typedef struct proxy {
     bool partial;           /* a message has begun and not ended */
     uint64_t partial_since; /* milliseconds */
     unsigned asked;         /* requests that were yielded and have no reply yet */
-    uint8_t out[PROXY_REPLIES * PROXY_REPLY];
-    size_t out_from, out_count; /* bytes of `out`, a ring */
+    uint8_t out[PROXY_REPLIES * PROXY_REPLY + PROXY_HEADER];
+    size_t out_from, out_count; /* bytes of `out`, a ring: replies, and at its end what is left of the next one's header */
 } proxy;
 
 /* Begins a connection on a stream socket, which is the connection's from now on, or on -1, for a caller that feeds it itself. `c` closes what the peer gave.
@@ -142,11 +147,14 @@ proxy_error proxy_next(proxy *p, proxy_request *q, bool *there, uint64_t now);
 /* Queues the reply of the oldest request that waits for one. */
 proxy_error proxy_reply(proxy *p, uint64_t value);
 
-/* Writes as much as the socket takes now of what is queued. */
+/* Writes as much as the socket takes now of the replies that are queued. */
 proxy_error proxy_flush(proxy *p);
 
-/* Whether something is queued: then the socket is to be polled for writing. */
+/* Whether a reply is queued: then the socket is to be polled for writing. */
 bool proxy_pending(const proxy *p);
+
+/* Writes as much as the socket takes now of the next reply's header, after all replies. For when nothing is more urgent. */
+proxy_error proxy_send_ahead(proxy *p);
 
 /* PROXY_STALLED where a message has been incomplete for PROXY_STALL milliseconds. */
 proxy_error proxy_check(proxy *p, uint64_t now);

@@ -113,20 +113,52 @@ static bool carry_out(guest *g, mediation *m, proxy_request *q, uint64_t *value,
 
 static bool has_reply(proxy_kind kind) { return kind != PROXY_MEMORY && kind != PROXY_INTERRUPT; }
 
+/* A write into the BAR is posted, as on a bus: the guest goes on before it is carried out. Whatever the guest asks for next sees what it did. */
+static proxy_error reply_to_posted(guest *g, const proxy_request *q) {
+    if (q->kind != PROXY_BAR_WRITE) return PROXY_OK;
+    proxy_error e = proxy_reply(&g->link, 0);
+    return e == PROXY_OK ? proxy_flush(&g->link) : e;
+}
+
+/* Carries out a request, and replies to it. */
+static bool answer(guest *g, mediation *m, proxy_request *q, proxy_error *e, reason *r) {
+    uint64_t value;
+    m->due = true;
+    g->requests++;
+    *e = reply_to_posted(g, q);
+    if (!carry_out(g, m, q, &value, r)) return false;
+    if (*e == PROXY_OK && has_reply(q->kind) && q->kind != PROXY_BAR_WRITE && !g->resetting) *e = proxy_reply(&g->link, value);
+    return true;
+}
+
+bool guest_asks(guest *g) {
+    size_t before = g->link.have;
+    return proxy_receive(&g->link, clock_milliseconds()) != PROXY_OK || g->link.have != before;
+}
+
+/* What is there already comes first: the socket is looked at once nothing more is. */
 bool guest_serve(guest *g, mediation *m, reason *r) {
     proxy_request q;
-    uint64_t value;
-    bool there;
+    bool there = true;
+    proxy_error e = PROXY_OK;
     if (closing_left(&g->closing) > CLOSING_MOST) return refuse(r, "it gives descriptors faster than they can be closed");
-    proxy_error e = proxy_receive(&g->link, clock_milliseconds());
-    while (!g->resetting && e == PROXY_OK && (e = proxy_next(&g->link, &q, &there, clock_milliseconds())) == PROXY_OK && there) {
-        m->due = true;
-        g->requests++;
-        if (!carry_out(g, m, &q, &value, r)) return false;
-        if (has_reply(q.kind) && !g->resetting) e = proxy_reply(&g->link, value);
+    for (bool received = false; e == PROXY_OK && (there || !received);) {
+        if (!there) {
+            received = true;
+            e = proxy_receive(&g->link, clock_milliseconds());
+        }
+        there = false;
+        if (e == PROXY_OK && !g->resetting) e = proxy_next(&g->link, &q, &there, clock_milliseconds());
+        if (there && !answer(g, m, &q, &e, r)) return false;
     }
     if (e == PROXY_OK) e = proxy_flush(&g->link);
     if (e == PROXY_OK) e = proxy_check(&g->link, clock_milliseconds());
+    return e == PROXY_OK || refuse(r, "%s", proxy_words(e));
+}
+
+bool guest_prepare(guest *g, reason *r) {
+    if (!g->connected) return true;
+    proxy_error e = proxy_send_ahead(&g->link);
     return e == PROXY_OK || refuse(r, "%s", proxy_words(e));
 }
 

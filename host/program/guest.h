@@ -41,8 +41,14 @@ bool guest_is_free(const guest *g, mediation *m);
 /* Takes a QEMU that connects. */
 void guest_accept(guest *g);
 
+/* Whether its QEMU has something to ask for, as far as one look at the socket says; also where the connection has ended or failed. What came is guest_serve's. */
+bool guest_asks(guest *g);
+
 /* Carries out what its QEMU asks for. False, with the reason, where the connection has to be closed: guest_lose does it. */
 bool guest_serve(guest *g, mediation *m, reason *r);
+
+/* Sends ahead what its QEMU takes of a reply before it waits. As guest_serve. */
+bool guest_prepare(guest *g, reason *r);
 
 /* Answers a reset once the guest's commands have run out, and goes on. As guest_serve. */
 bool guest_end_reset(guest *g, mediation *m, reason *r);

@@ -16,7 +16,7 @@
 
 enum { ENDED = 0, FAILED = 1, USAGE = 2, DRIVE_FAILED = 3, POLLS = 3 * CONFIG_GUESTS, TICK = PAUSE_TICK / 1000 /* milliseconds */ };
 enum { LINES = 8 /* on a guest, in a second */ };
-enum { LOOKS = 8 /* of a program that makes no pause, one of which asks for all guests */ };
+enum { LOOKS = 16 /* at one guest's socket, of a program that makes no pause */ };
 
 typedef struct host {
     config config;
@@ -28,8 +28,8 @@ typedef struct host {
     statistics counts;
     guest guest[CONFIG_GUESTS];
     unsigned guests; /* that have begun */
-    const guest *last; /* that asked for something */
-    unsigned looks;
+    guest *last; /* that asked for something */
+    bool alone;  /* no other guest was looked at since */
 } host;
 
 static volatile sig_atomic_t stopping;
@@ -159,7 +159,7 @@ static void tell(host *h) {
     reason r;
     for (unsigned i = 0; i < h->guests; i++) {
         guest *g = &h->guest[i];
-        if (!guest_end_reset(g, &h->mediation, &r) || !guest_interrupt(g, &h->mediation, &r)) lose(h, g, &r);
+        if (!guest_end_reset(g, &h->mediation, &r) || !guest_interrupt(g, &h->mediation, &r) || !guest_prepare(g, &r)) lose(h, g, &r);
         if (g->connected && pci_is_shutting(&g->function) && mediation_is_idle_of(&h->mediation, i)) pci_note_idle(&g->function);
     }
 }
@@ -181,12 +181,22 @@ static struct timespec longest_pause(const host *h) {
     return (struct timespec){(time_t)(microseconds / 1000000), (long)(microseconds % 1000000) * 1000};
 }
 
-/* Waits until a guest has something, or the pause is over, and notes who has. A program that makes no pause looks most times at the guest alone that asked last:
- * the next request is most likely its, and is read one call of the system sooner. False where guests cannot be waited for. */
+/* Whether the guest that asked last does so again. The next request is most likely its, and it waits for the reply: so a program that makes no pause, and whose
+ * drive has no commands that it has to poll for, looks at its socket again and again before it asks who else has something. After such a request it asks that
+ * first, so that a guest that has always something keeps no other from being served. */
+static bool asks_again(host *h) {
+    bool alone = h->alone;
+    h->alone = false;
+    if (alone || !h->last || !h->last->connected || mediation_is_polled(&h->mediation)) return false;
+    for (unsigned i = 0; i < LOOKS && !h->alone; i++) h->alone = guest_asks(h->last);
+    return h->alone;
+}
+
+/* Waits until a guest has something, or the pause is over, and notes who has. False where guests cannot be waited for. */
 static bool await(host *h, struct pollfd *polls) {
     struct timespec most = longest_pause(h);
     fill(h, polls);
-    if (h->last && h->last->connected && most.tv_sec == 0 && most.tv_nsec == 0 && ++h->looks % LOOKS) {
+    if (most.tv_sec == 0 && most.tv_nsec == 0 && !h->mediation.due && asks_again(h)) {
         polls[3 * h->last->number].revents = POLLIN;
         return true;
     }

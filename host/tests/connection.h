@@ -25,6 +25,14 @@ static inline void send_with(int fd, const uint8_t *bytes, size_t length, unsign
 
 static inline void send_message(int fd, message m, unsigned count) { send_with(fd, m.bytes, m.length, count); }
 
+/* As proxy_send_ahead on a socket that takes so many bytes alone. */
+static inline void send_ahead(proxy *p, size_t bytes) {
+    for (; bytes > 0; bytes--, p->out_count--) {
+        if (!send_bytes(p->fd, p->out + p->out_from, 1, NULL, 0)) abort();
+        p->out_from = (p->out_from + 1) % sizeof p->out;
+    }
+}
+
 /* Receives until a request is there, an error, or nothing more. */
 static inline proxy_error turn(proxy *p, proxy_request *q, bool *there) {
     proxy_error e;

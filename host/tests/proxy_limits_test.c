@@ -49,10 +49,10 @@ static void test_floods(void) {
     int peer;
     unsigned taken;
     proxy_error e;
-    /* a reply of which a byte is left to be written has its place, too */
+    /* a reply of whose value a byte is left to be written has its place, too */
     for (unsigned left = 0; left < 2; left++) {
         peer = pair(&p);
-        p.out_count = left;
+        p.out_count = left + PROXY_HEADER;
         for (taken = 0;; taken++) {
             send_message(peer, bar_access(BAR_READ, 0xfe000000, 0, 4, 1), 0);
             e = turn(&p, &q, &there);
@@ -76,8 +76,9 @@ static void test_floods(void) {
     /* one that reads late gets all of them in order; in one of two rounds those that wait go round the end of the ring */
     for (unsigned round = 0; round < 2; round++) {
         peer = pair(&p);
-        p.out_from = round * PROXY_REPLIES / 2 * PROXY_REPLY;
-        for (taken = 0; p.out_count < sizeof p.out; taken++) {
+        p.out_from = round * sizeof p.out / 2;
+        memcpy(p.out + p.out_from, p.out, PROXY_HEADER * round);
+        for (taken = 0; p.out_count <= sizeof p.out - PROXY_REPLY; taken++) {
             send_message(peer, bar_access(BAR_READ, 0xfe000000, 0, 4, 1), 0);
             CHECK(turn(&p, &q, &there) == PROXY_OK && there && proxy_reply(&p, taken) == PROXY_OK && proxy_flush(&p) == PROXY_OK);
         }

@@ -123,6 +123,33 @@ static void test_replies(void) {
     proxy_close(&p);
 }
 
+/* A header that was sent ahead is that of the next reply, also where a part of it alone was. One that was not comes with its reply. */
+static void test_ahead(void) {
+    static const uint8_t expected[24] = {1, 0, 0, 0, 0, 0, 0, 0, 8, 0, 0, 0, 0, 0, 0, 0, 0x88, 0x77, 0x66, 0x55, 0x44, 0x33, 0x22, 0x11};
+    for (size_t ahead = 0; ahead <= PROXY_HEADER; ahead++) {
+        proxy p;
+        proxy_request q;
+        bool there, good = true;
+        int peer = pair(&p);
+        for (unsigned i = 0; i < 50; i++) {
+            uint8_t reply[64];
+            if (ahead == PROXY_HEADER) good = good && proxy_send_ahead(&p) == PROXY_OK && proxy_send_ahead(&p) == PROXY_OK && p.out_count == 0;
+            else send_ahead(&p, ahead);
+            good = good && !proxy_pending(&p) && recv(peer, reply, sizeof reply, MSG_DONTWAIT) == (ahead ? (ssize_t)ahead : -1);
+            send_message(peer, config_access(PCI_CFGREAD, 0, 0, 4), 0);
+            good = good && turn(&p, &q, &there) == PROXY_OK && there && proxy_reply(&p, UINT64_C(0x1122334455667788)) == PROXY_OK;
+            /* not before the reply */
+            good = good && proxy_pending(&p) && proxy_send_ahead(&p) == PROXY_OK && recv(peer, reply + ahead, 1, MSG_DONTWAIT) == -1;
+            good = good && proxy_flush(&p) == PROXY_OK && !proxy_pending(&p) && p.out_count == PROXY_HEADER;
+            good = good && recv(peer, reply + ahead, sizeof reply - ahead, MSG_DONTWAIT) == (ssize_t)(24 - ahead) && !memcmp(reply, expected, 24);
+        }
+        CHECK(good);
+        close(peer);
+        CHECK(proxy_send_ahead(&p) == PROXY_CLOSED);
+        proxy_close(&p);
+    }
+}
+
 /* Each message, a byte at a time, and every cut of it. */
 static void test_bytewise(void) {
     message all[] = {eight_regions(), config_access(PCI_CFGWRITE, 4, 6, 2), bar_access(BAR_WRITE, 0xfe000014, 1, 4, 1), header(SET_IRQFD, 0),
@@ -249,6 +276,7 @@ int main(void) {
     test_decode_bad();
     test_regions();
     test_replies();
+    test_ahead();
     test_bytewise();
     test_attribution();
     test_borders();

@@ -1,9 +1,9 @@
 -- Events that are answered one after another, and the lines of their replies
-use Rattle.std.proofs.Common.{◌≡◌, ℕ, ◌+◌, ◌<◌, suc, List, [], ◌∷◌, ◌++◌, length, drop, get_or, Option, Result, Ok, Err, OnOk, refl, sym, ap, ◌∙◌, arith, append_assoc, inl, inr, subst, length-append}
+use Rattle.std.proofs.Common.{◌≡◌, ℕ, ◌+◌, ◌<◌, suc, List, [], ◌∷◌, ◌++◌, length, drop, get_or, Option, Result, Ok, Err, OnOk, IsTrue, refl, sym, ap, ◌∙◌, arith, append_assoc, inl, inr, subst, length-append}
 use Rattle.std.proofs.Math.Seq.{drop-cons}
 use Rattle.std.proofs.lemmas.List.{append-nil}
 use Rattle.std.specs.Io.KnownBytes.{Appends}
-use Rattle.nv_mediator.specs.Hosted.{Hosted, IsAtStart, IsMade, hosted_world, setup_of}
+use Rattle.nv_mediator.specs.Hosted.{Hosted, IsAtStart, IsMade, hosted_world, may_want, setup_of}
 use Rattle.nv_model.specs.declared.reply.Reply.{Reply}
 use Rattle.nv_model.specs.declared.reply.Reply.TheVariants as reply
 use Rattle.nv_print.proofs.Growing.{Appends-nothing, Appends-then}
@@ -67,9 +67,9 @@ PrintsStep-made n e old new u v reply (Ok x) made line = (reply, inr made.after,
 
 -- an event for which there was no memory has that line
 pub PrintsStep-none : {E : Type 0} → (n : ℕ) (e : Event) (old new : Hosted) (u v : Option (List ℕ)) (r : Result (Unit {0}) E)
-    → new ≡ old → OnOk r (Appends u v (reply_line n reply.NoMemory)) → OnOk r (PrintsStep n e old new u v)
-PrintsStep-none n e old new u v (Err error) same line = tt
-PrintsStep-none n e old new u v (Ok x) same line = (reply.NoMemory, inl (refl, ap hosted_world same), ap setup_of same, line)
+    → new ≡ old → IsTrue (may_want e) → OnOk r (Appends u v (reply_line n reply.NoMemory)) → OnOk r (PrintsStep n e old new u v)
+PrintsStep-none n e old new u v (Err error) same wants line = tt
+PrintsStep-none n e old new u v (Ok x) same wants line = (reply.NoMemory, inl (wants, refl, ap hosted_world same), ap setup_of same, line)
 
 -- an output has grown by the lines of so many replies, and these answer the events before those that are left
 pub record RunsSoFar (replay : ReplayValue) (u v : Option (List ℕ)) (count : ℕ) (now : Hosted) (left : List Event) : Type 0 where

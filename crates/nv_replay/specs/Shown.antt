@@ -1,8 +1,8 @@
 -- What a run prints: a line for each event, its number and its reply, and the number of events (profile)
-use Rattle.std.specs.Prelude.{◌≡◌, ◌⊎◌, ℕ, ◌+◌, List, [], ◌∷◌, ◌++◌, length, codes, Option, IfSome, Ok}
+use Rattle.std.specs.Prelude.{◌≡◌, ◌⊎◌, ℕ, ◌+◌, List, [], ◌∷◌, ◌++◌, length, codes, Option, IfSome, IsTrue, Ok}
 use Rattle.std.specs.Fmt.{decimal}
 use Rattle.std.specs.Io.KnownBytes.{Appends}
-use Rattle.nv_mediator.specs.Hosted.{Hosted, hosted_world, setup_of}
+use Rattle.nv_mediator.specs.Hosted.{Hosted, hosted_world, may_want, setup_of}
 use Rattle.nv_model.specs.declared.reply.Reply.{Reply}
 use Rattle.nv_model.specs.declared.reply.Reply.TheVariants.{Done, Bytes, Idle, Busy, Held, Stale, Unmapped, Ignored, NoMemory}
 use Rattle.nv_print.specs.Printed.{dump_line, line_feed}
@@ -46,10 +46,10 @@ shown replies = reply_lines 1 replies ++ count_line (length replies)
 
 -- ---- replies
 
--- the reply to an event is the step's, and the world goes on by it; or there was no memory for it, and the world stays
+-- the reply to an event is the step's, and the world goes on by it; or there was no memory for one that may want some, and the world stays
 abbrev pub IsAnswered : Geometry → (old : World) → Event → Reply → (new : World) → Type 0
 IsAnswered geometry old event reply new =
-    ((reply ≡ NoMemory) × (new ≡ old)) ⊎ (record { world = new; reply = reply } ≡ step geometry event old)
+    (IsTrue (may_want event) × (reply ≡ NoMemory) × (new ≡ old)) ⊎ (record { world = new; reply = reply } ≡ step geometry event old)
 
 -- each event is answered where the one before left the world
 unfoldable pub AreAnswered : Geometry → (old : World) → List Event → List Reply → (new : World) → Type 0

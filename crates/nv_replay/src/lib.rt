@@ -3,7 +3,7 @@
 //! [`read`] takes a script whole, and opens its mediator: the guests' maps in order, then the set-up. [`run`] steps that mediator and prints.
 //! What the text says is `specs/Opening`, over `nv_replay_script` and the set-ups of `nv_world_model`: [`read`] gives exactly that, or that
 //! memory was refused. What is printed is `specs/Shown`: each reply is the step's, and the world goes on by it, or it says that there was no
-//! memory, and the world stays.
+//! memory, where the event may want some, and the world stays.
 //!
 //! No log is kept: each event is printed where it is carried out, and its reply is dropped. [`open_world`] opens a world with a log, for `run`. It is a
 //! crate of its own because `run` opens its world by it, and it needs no threads.
