@@ -60,6 +60,7 @@ static uint64_t read_bar(guest *g, mediation *m, const proxy_request *q) {
 
 static void write_property(guest *g, mediation *m, uint32_t offset, uint32_t value) {
     if (offset >= PCI_DOORBELLS) {
+        g->rang = true;
         nvmed_doorbell(&m->mediator, g->number, offset, value);
         return;
     }
@@ -125,6 +126,7 @@ static bool answer(guest *g, mediation *m, proxy_request *q, proxy_error *e, rea
     uint64_t value;
     m->due = true;
     g->requests++;
+    g->rang = false;
     *e = reply_to_posted(g, q);
     if (!carry_out(g, m, q, &value, r)) return false;
     if (*e == PROXY_OK && has_reply(q->kind) && q->kind != PROXY_BAR_WRITE && !g->resetting) *e = proxy_reply(&g->link, value);
@@ -156,8 +158,9 @@ bool guest_serve(guest *g, mediation *m, reason *r) {
     return e == PROXY_OK || refuse(r, "%s", proxy_words(e));
 }
 
+/* A doorbell is most often followed by another one, and guests at work send nothing else. */
 bool guest_prepare(guest *g, reason *r) {
-    if (!g->connected) return true;
+    if (!g->connected || !g->rang) return true;
     proxy_error e = proxy_send_ahead(&g->link);
     return e == PROXY_OK || refuse(r, "%s", proxy_words(e));
 }

@@ -26,6 +26,7 @@ typedef struct guest {
     closing closing; /* what its QEMUs gave */
     unsigned said;   /* lines on it in this second */
     uint64_t requests; /* that its QEMUs have made */
+    bool rang; /* the last one was a doorbell */
 } guest;
 
 /* A guest without a QEMU. Its memory is there already. */
@@ -47,7 +48,7 @@ bool guest_asks(guest *g);
 /* Carries out what its QEMU asks for. False, with the reason, where the connection has to be closed: guest_lose does it. */
 bool guest_serve(guest *g, mediation *m, reason *r);
 
-/* Sends ahead what its QEMU takes of a reply before it waits. As guest_serve. */
+/* After a doorbell: sends ahead what its QEMU takes of the next reply before it waits. As guest_serve. */
 bool guest_prepare(guest *g, reason *r);
 
 /* Answers a reset once the guest's commands have run out, and goes on. As guest_serve. */
