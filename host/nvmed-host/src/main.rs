@@ -1,0 +1,3 @@
+//! `nvmed-host`: virtual machines with unmodified drivers share an NVMe drive through the proved mediator.
+
+fn main() {}

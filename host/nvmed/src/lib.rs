@@ -1,0 +1,1 @@
+//! A proved NVMe mediator, as a safe interface to the library `libnvmed`.
