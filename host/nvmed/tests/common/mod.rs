@@ -195,7 +195,7 @@ impl Guest {
     pub fn status(&self) -> Option<u32> {
         let last = self.sent - 1;
         let completion = self.get(IO_CQ + 16 * u64::from(last % 16), 16);
-        let phase = 1 ^ (last / 16 & 1);
+        let phase = 1 ^ ((last / 16) & 1);
         let word = dword(&completion, 12);
         (word >> 16 & 1 == phase).then_some(word >> 17)
     }
