@@ -31,7 +31,7 @@ self=$(readlink -f "$0")
 top=$(dirname "$(dirname "$self")")
 header=$top/include/nvmed.h
 # the library's name, for the linker and for pkg-config, and what it is
-name=nvmed
+product=nvmed
 description='A proved NVMe mediator, as a library'
 # of one run of a program, in seconds; under valgrind they take some ten times as long as without it
 limit=120
@@ -50,18 +50,18 @@ stop() {
     exit 1
 }
 
-# what the archive without proofs has in it, and the linker's warning
+# what an archive without proofs has in it, and the linker's warning
 mark='nvmed-tried: built without proofs'
 warning='this library was built without its proofs: use it for trials alone'
 tried=
 if [[ ${1:-} == try ]]; then
     tried=yes
-    name=nvmed-tried
+    product=nvmed-tried
     description='An NVMe mediator, as a library: built without its proofs, for trials alone'
     shift
 fi
 # what is installed
-files=("lib/lib$name.a" include/nvmed.h "lib/pkgconfig/$name.pc")
+files=("lib/lib$product.a" include/nvmed.h "lib/pkgconfig/$product.pc")
 
 case "$#:${1:-}" in
     0: | 1:time | 2:install) ;;
@@ -75,7 +75,7 @@ if [[ ${1:-} == install ]]; then
     [[ -n $prefix ]] || stop "the prefix is empty"
     [[ $prefix == /* ]] || prefix=$PWD/$prefix
     prefix=${prefix%/}
-    [[ $prefix != *[[:space:]\"\'\\\$\#]* ]] || stop "$name.pc cannot name a prefix with spaces, quotes, a backslash, \$ or #: $prefix"
+    [[ $prefix != *[[:space:]\"\'\\\$\#]* ]] || stop "$product.pc cannot name a prefix with spaces, quotes, a backslash, \$ or #: $prefix"
 fi
 
 command -v rt > /dev/null || stop "the toolchain's command rt is not on the path"
@@ -113,17 +113,25 @@ names_in() {
     "$(tool nm llvm-nm)" -g --defined-only -P "$1" | sed -nE 's/^([^ ]+) [A-Z] .*/\1/p' | sort
 }
 
-# Marks an object as built without proofs.
-mark_tried() {
-    printf '%s\n' "$mark" > "$room/mark"
+# Whether an archive has the mark of one without proofs.
+is_marked() {
+    grep -qF "$mark" "$1"
+}
+
+# Lets the linker warn of an object without proofs: the program that copies objects, and the object.
+warn_of() {
     printf '%s\0' "$warning" > "$room/warning"
-    "$1" --add-section .nvmed_tried="$room/mark" --add-section .gnu.warning.nvmed_raw_new="$room/warning" \
-        --add-section .gnu.warning.nvmed_raw_serve="$room/warning" "$2"
+    "$1" --add-section .gnu.warning.nvmed_raw_new="$room/warning" --add-section .gnu.warning.nvmed_raw_serve="$room/warning" "$2"
 }
 
 # Makes the library's archive in the room.
 make_archive() {
     local declared call wanted=() linker copier archiver
+    if [[ -n $tried ]]; then
+        is_marked "$library" || stop "$library has no mark that says that it was built without proofs"
+    elif is_marked "$library"; then
+        stop "$library was built without proofs: 'bench/c.sh try install PREFIX' installs it"
+    fi
     linker=$(tool ld ld.lld)
     copier=$(tool objcopy llvm-objcopy)
     archiver=$(tool ar llvm-ar)
@@ -135,9 +143,9 @@ make_archive() {
     "$copier" --wildcard --keep-global-symbol='nvmed_raw_*' "$room/nvmed.o" || stop "the names of $library were not made local"
     names_in "$room/nvmed.o" > "$room/names"
     diff <(echo "$declared") "$room/names" >&2 || stop "$library has not the functions that nvmed.h declares: < is not there, > is not declared"
-    [[ -z $tried ]] || mark_tried "$copier" "$room/nvmed.o" || stop "the library without proofs was not marked"
-    rm -f "$room/lib$name.a"
-    "$archiver" rcsD "$room/lib$name.a" "$room/nvmed.o" || stop "lib$name.a was not made"
+    [[ -z $tried ]] || warn_of "$copier" "$room/nvmed.o" || stop "the library without proofs got no warning"
+    rm -f "$room/lib$product.a"
+    "$archiver" rcsD "$room/lib$product.a" "$room/nvmed.o" || stop "lib$product.a was not made"
 }
 
 # A number of the interface's version: MAJOR or MINOR.
@@ -155,16 +163,16 @@ install_library() {
     minor=$(version MINOR)
     make_archive
     cp "$header" "$room/nvmed.h"
-    cat > "$room/$name.pc" << END
+    cat > "$room/$product.pc" << END
 prefix=$prefix
 includedir=\${prefix}/include
 libdir=\${prefix}/lib
 
-Name: $name
+Name: $product
 Description: $description
 Version: $major.$minor
 Cflags: -I\${includedir}
-Libs: -L\${libdir} -l$name
+Libs: -L\${libdir} -l$product
 END
     for file in "${files[@]}"; do
         [[ ! -d $root/$file ]] || stop "nothing was installed: $root/$file is a folder"
@@ -278,12 +286,7 @@ is_alone() {
 installs() {
     LIBRARY=$library DESTDIR=$1 "$self" ${tried:+try} install "$2" > /dev/null || return 1
     diff <(printf '%s\n' "${files[@]}" | sort) <(cd "$1$2" && find . ! -type d | sed 's,^\./,,' | sort) || return 1
-    grep -qFx "prefix=$2" "$1$2/lib/pkgconfig/$name.pc"
-}
-
-# Whether an archive has the mark of one without proofs.
-is_marked() {
-    grep -qF "$mark" "$1"
+    grep -qFx "prefix=$2" "$1$2/lib/pkgconfig/$product.pc"
 }
 
 # Whether the library without proofs is installed beside the proved one, and which of the two has the mark.
@@ -310,12 +313,12 @@ if [[ $failed != 0 ]]; then
     exit 1
 fi
 flags=("-I$copy/include")
-libs=("-L$copy/lib" "-l$name")
+libs=("-L$copy/lib" "-l$product")
 if command -v pkg-config > /dev/null; then
     unset PKG_CONFIG_SYSROOT_DIR
     export PKG_CONFIG_PATH=$copy/lib/pkgconfig
-    read -ra flags < <(pkg-config --cflags "$name")
-    read -ra libs < <(pkg-config --libs "$name")
+    read -ra flags < <(pkg-config --cflags "$product")
+    read -ra libs < <(pkg-config --libs "$product")
 else
     say "there is no pkg-config: the copy that is installed is named by its paths"
 fi
