@@ -603,14 +603,14 @@ impl Client {
     /// All that QEMU 11.1.3 sends until the guest's firmware runs: version, memory one range at a time, what the device is, its configuration space, a reset.
     pub fn start_as_qemu(&mut self, memory: &Memory, ranges: &[Range]) -> io::Result<Found> {
         let capabilities = self.version()?;
+        for range in ranges {
+            self.map(*range, Some(memory.file.as_fd()))?;
+        }
         let (flags, regions, irqs) = self.device_info()?;
         if flags != 3 || regions < 9 || irqs < 3 {
             return wrong(format!(
                 "no PCI device with a reset: {flags:#x}, {regions} regions, {irqs} interrupts"
             ));
-        }
-        for range in ranges {
-            self.map(*range, Some(memory.file.as_fd()))?;
         }
         let indexes = [0, 1, 2, 3, 4, 5, 7];
         let regions = indexes

@@ -188,9 +188,9 @@ fn room_is_bounded() {
     let mut held = 0;
     while session.has_room() {
         held += session.feed(&one[held % one.len()..], vec![]).unwrap();
-        assert!(held <= 64 << 10);
+        assert!(held <= 16 << 10);
     }
-    assert_eq!((held, session.feed(&one, vec![])), (64 << 10, Ok(0)));
+    assert_eq!((held, session.feed(&one, vec![])), (16 << 10, Ok(0)));
     session.answer(ticket, Answer::Done).unwrap();
     let mut taken = 0;
     while let Some((_, ticket)) = session.next_request().unwrap() {
