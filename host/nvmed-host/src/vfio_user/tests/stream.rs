@@ -223,7 +223,7 @@ fn unread_replies() {
     }
     // the protocol's own replies count as well
     let mut session = begun();
-    let many = message(2, command::GET_INFO, 0, &info_payload()).repeat(1000);
+    let many = message(2, command::GET_INFO, 0, &info_payload()).repeat(400);
     let error = loop {
         feed(&mut session, &many, vec![]);
         if let Err(error) = session.next_request() {
