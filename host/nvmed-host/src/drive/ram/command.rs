@@ -94,6 +94,24 @@ impl Step {
             _ => Err(Status::INVALID_OPCODE),
         }
     }
+
+    /// Whether it is Force Unit Access.
+    pub fn is_forced(&self) -> bool {
+        match self {
+            Step::Transfer(transfer) => transfer.forced,
+            Step::Clear(clearing) => clearing.forced,
+            Step::Sync => false,
+        }
+    }
+
+    /// Whether it changes blocks.
+    pub fn changes(&self) -> bool {
+        match self {
+            Step::Transfer(transfer) => transfer.kind == Kind::Write,
+            Step::Clear(_) => true,
+            Step::Sync => false,
+        }
+    }
 }
 
 /// The bytes of blocks in a row, where the drive has all of them.

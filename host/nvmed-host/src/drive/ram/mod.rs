@@ -163,7 +163,13 @@ impl<M: SharedMemory + 'static> RamDrive<M> {
         let (outcome, used) = carrier.advance(&mut task.step, PIECE.min(turn.bytes), Wait::Never);
         turn.bytes = turn.bytes.saturating_sub(used);
         match outcome {
-            Outcome::Done(status) => self.post(turn, task.lane, task.command, status)?,
+            Outcome::Done(mut status) => {
+                if status.is_good() && task.step.is_forced() {
+                    let synced = carrier.sync();
+                    status = if task.step.changes() { synced } else { status };
+                }
+                self.post(turn, task.lane, task.command, status)?;
+            }
             Outcome::More => self.jobs.push_back(task),
             Outcome::WouldWait => self.threads.give(task),
         }

@@ -180,7 +180,7 @@ impl<M: SharedMemory> Shared<M> {
     }
 
     fn sync_all(&self, tasks: VecDeque<Task>) {
-        let is_read = |task: &Task| matches!(&task.step, Step::Transfer(transfer) if transfer.kind != Kind::Write);
+        let is_read = |task: &Task| matches!(task.step, Step::Transfer(_)) && !task.step.changes();
         let (reads, writes): (Vec<Task>, Vec<Task>) = tasks.into_iter().partition(is_read);
         let mut written = Vec::with_capacity(writes.len());
         for mut task in writes {
