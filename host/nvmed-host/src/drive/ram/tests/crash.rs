@@ -127,7 +127,7 @@ fn submit(rig: &mut Rig, model: &mut Model, random: &mut Random, version: u64) {
         block.versions.push(if zeroes { 0 } else { version });
     }
     let forced = random.below(4) == 0;
-    let d12 = count as u32 - 1 | if forced { FORCED } else { 0 };
+    let d12 = (count as u32 - 1) | if forced { FORCED } else { 0 };
     // Each command that is outstanding has a page of its own: at most one for each block.
     let page = DATA + 0x1000 * first;
     let command = if zeroes {
