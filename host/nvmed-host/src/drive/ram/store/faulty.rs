@@ -238,7 +238,7 @@ impl Store for FaultyStore {
         self.change(offset, &gathered(places), fault)
     }
 
-    fn zero(&self, offset: u64, bytes: u64) -> io::Result<()> {
+    fn zero(&self, offset: u64, bytes: u64, _: bool) -> io::Result<()> {
         let fault = self.call(Call::Zero)?;
         self.change(offset, &vec![0; bytes as usize], fault)
     }

@@ -143,7 +143,7 @@ impl Store for MemoryStore {
         })
     }
 
-    fn zero(&self, offset: u64, bytes: u64) -> io::Result<()> {
+    fn zero(&self, offset: u64, bytes: u64, _: bool) -> io::Result<()> {
         let end = offset + bytes;
         let mut at = self.next_data(offset, end);
         while at < end {
@@ -231,7 +231,7 @@ mod tests {
         store
             .write(0, &slices(&mut all.clone()), Wait::Never)
             .expect("in range");
-        store.zero(512, 3 * CHUNK).expect("in range");
+        store.zero(512, 3 * CHUNK, true).expect("in range");
         let seen = content(&store, 0, all.len());
         for (i, byte) in seen.iter().enumerate() {
             assert_eq!(
@@ -245,7 +245,7 @@ mod tests {
             );
         }
         assert_eq!(store.next_data(CHUNK, 4 * CHUNK), 3 * CHUNK);
-        store.zero(0, 4 * CHUNK).expect("in range");
+        store.zero(0, 4 * CHUNK, true).expect("in range");
         assert_eq!(store.next_data(0, 4 * CHUNK), 4 * CHUNK);
         assert!(store.sync().is_ok() && store.check().is_ok() && !store.waits());
     }
@@ -266,7 +266,7 @@ mod tests {
             let length = (random(if round % 9 == 0 { 5000 } else { 40 }) + 1).min((bytes - at) / 512) * 512;
             let range = at as usize..(at + length) as usize;
             if round % 3 == 0 {
-                store.zero(at, length).expect("in range");
+                store.zero(at, length, true).expect("in range");
                 model[range].fill(0);
             } else {
                 let length = length.min(20 * 512);
@@ -291,6 +291,6 @@ mod tests {
         let end = 3 * MOST_LOOKED_AT * CHUNK;
         let first = store.next_data(0, end);
         assert!(first >= CHUNK * (MOST_LOOKED_AT - 1) && first < end);
-        store.zero(first, CHUNK).expect("in range");
+        store.zero(first, CHUNK, true).expect("in range");
     }
 }
