@@ -81,6 +81,7 @@ fn properties_are_checked() {
         bench.bar_bytes = bytes;
         assert_eq!(bench.controller().open().is_ok(), bytes == 0x1018);
     }
+    let mut bench = Bench::new();
     for admin in [0xf000, ADMIN + 8, MEMORY - 8192, MEMORY, u64::MAX - 4095] {
         bench.needs.admin = admin;
         refused(&bench, "the pages of the admin queue are not in the window");
@@ -224,6 +225,7 @@ fn each_admin_completion_is_checked() {
             if opcode >= 6 {
                 refused(&bench, part);
             }
+            let bench = Bench::with(|f| (f.fault, f.fault_opcode) = (fault, Some(opcode)));
             let mut n = bench.controller();
             let said = words(n.open().and_then(|()| n.create_lanes(&[rings(0), rings(1)])));
             assert!(said.contains(part), "{said} has no {part}");
