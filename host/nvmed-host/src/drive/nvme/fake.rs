@@ -9,8 +9,9 @@ use vm_memory::{Bytes, MmapRegion, VolatileMemory, VolatileSlice};
 
 use super::access::property::{ACQ, AQA, ASQ, CAP, CC, CRTO, CSTS, DOORBELLS, INTMS, VS};
 use super::bytes::{get16, get32, get64, put};
-use super::{Access, DriveMemory, Piece};
+use super::{Access, DriveMemory};
 use crate::drive::DriveError;
+use crate::memory::Piece;
 
 /// Memory for tests: host address a is byte a of it, where a piece has it.
 pub struct TestMemory {
@@ -42,10 +43,6 @@ impl TestMemory {
     pub fn put(&self, host: u64, bytes: &[u8]) {
         self.region.get_slice(host as usize, bytes.len()).unwrap().write_slice(bytes, 0).unwrap();
     }
-
-    pub fn base(&self) -> usize {
-        self.region.get_slice(0, 1).unwrap().ptr_guard().as_ptr() as usize
-    }
 }
 
 impl DriveMemory for TestMemory {
@@ -53,6 +50,14 @@ impl DriveMemory for TestMemory {
         let is_in = |p: &&Piece| host >= p.host && host - p.host < p.bytes && len as u64 <= p.bytes - (host - p.host);
         self.pieces.iter().find(is_in)?;
         self.region.get_slice(host as usize, len).ok()
+    }
+
+    fn pieces(&self) -> Vec<Piece> {
+        self.pieces.clone()
+    }
+
+    fn base(&self) -> *mut u8 {
+        self.region.as_ptr()
     }
 }
 

@@ -6,23 +6,35 @@ use std::sync::atomic::Ordering;
 use vm_memory::{Bytes, VolatileSlice};
 
 use crate::drive::DriveError;
+use crate::memory::{Piece, Window};
 
 /// Bytes of a page.
 pub const PAGE: u64 = 4096;
-
-/// A piece of the window that has memory: whole pages in a row.
-#[derive(Clone, Copy, Debug, PartialEq, Eq)]
-pub struct Piece {
-    /// Host address of its first byte, a multiple of 4,096.
-    pub host: u64,
-    /// Its length in bytes, a multiple of 4,096, not 0.
-    pub bytes: u64,
-}
 
 /// Memory that a drive shares with mediator and guests, by host address. Others write it at any time, so each byte is read once.
 pub trait DriveMemory: Send + Sync {
     /// The `len` bytes from a host address on, or `None` where not all of them have memory.
     fn slice(&self, host: u64, len: usize) -> Option<VolatileSlice<'_>>;
+
+    /// Where there is memory. All of it stays, as long as the drive is open.
+    fn pieces(&self) -> Vec<Piece>;
+
+    /// Where host address 0 lies in this process.
+    fn base(&self) -> *mut u8;
+}
+
+impl DriveMemory for Window {
+    fn slice(&self, host: u64, len: usize) -> Option<VolatileSlice<'_>> {
+        Window::slice(self, host, len)
+    }
+
+    fn pieces(&self) -> Vec<Piece> {
+        Window::pieces(self)
+    }
+
+    fn base(&self) -> *mut u8 {
+        Window::base(self)
+    }
 }
 
 /// Whether `len` bytes from `host` on have memory.

@@ -26,7 +26,7 @@ pub use access::{Access, Capabilities};
 pub use admin::{ADMIN_BYTES, ADMIN_WAIT};
 pub use controller::{Controller, Found, Needs, ABORT_AFTER, MOST_LANES, RESET_AFTER, RESETS, SHUTDOWN_WAIT, TRANSFER};
 pub use event::Event;
-pub use memory::{DriveMemory, Piece};
+pub use memory::DriveMemory;
 
 use super::DriveError;
 use std::time::Duration;
