@@ -38,7 +38,6 @@ start_lines() {
 guest_lines() {
     echo "guest $1 memory ${memory}M${4:+ $4}"
     extent_lines "$1"
-    echo "version $1 1.2"
     start_lines "$1" "$2" "$3"
 }
 
