@@ -43,7 +43,6 @@ impl From<InterruptError> for FunctionError {
 }
 
 /// The function, of one guest. It stays from one connection to the next, and is reset between them.
-#[derive(Debug)]
 pub struct Function {
     config: ConfigSpace,
     interrupts: Interrupts,

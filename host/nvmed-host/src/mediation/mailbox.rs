@@ -452,13 +452,15 @@ mod tests {
     #[test]
     fn numbers_of_questions_begin_again() {
         let (mut sender, mut receiver) = pair();
-        sender.asked = u32::MAX;
-        receiver.answered = u32::MAX;
-        let guest = std::thread::spawn(move || sender.read(0));
-        while receiver.take().is_none() {
-            std::thread::yield_now();
+        sender.asked = u32::MAX - 1;
+        receiver.answered = u32::MAX - 1;
+        let guest = std::thread::spawn(move || (sender.read(0), sender.read(0)));
+        for value in [3, 4] {
+            while receiver.take().is_none() {
+                std::thread::yield_now();
+            }
+            receiver.answer(value);
         }
-        receiver.answer(3);
-        assert_eq!(guest.join().unwrap(), Ok(3));
+        assert_eq!(guest.join().unwrap(), (Ok(3), Ok(4)));
     }
 }

@@ -159,7 +159,7 @@ impl<S: Side> Mediation<S> {
             busy: false,
             moved: now,
             ticked: now,
-            faults: crate::memory::faults(),
+            faults: crate::memory::fault::all(),
         })
     }
 
@@ -368,7 +368,7 @@ impl<S: Side> Mediation<S> {
 
     /// An access of a guest's memory has met a file that was cut off: each guest's thread looks whether it was its own.
     fn note_faults(&mut self) {
-        let faults = crate::memory::faults();
+        let faults = crate::memory::fault::all();
         if faults != self.faults {
             self.faults = faults;
             for client in &self.clients {
@@ -410,7 +410,7 @@ impl<S: Side> Mediation<S> {
         ];
         // an interruption by a signal is a turn more
         let _woken = ppoll(&mut fds, Some(TimeSpec::from_duration(pause)), None);
-        wake.is_some() && fds.get(1).and_then(PollFd::any).unwrap_or(false)
+        wake.is_some() && fds.get(1).and_then(|fd| fd.any()).unwrap_or(false)
     }
 
     fn pause(&self, now: Instant) -> Duration {
