@@ -433,3 +433,6 @@ impl<S: Side> Mediation<S> {
         }
     }
 }
+
+#[cfg(test)]
+mod tests;
