@@ -96,10 +96,22 @@ impl RamRegion {
 
 /// The regions of a machine with `bytes` bytes of RAM, in ascending order of addresses and offsets: one or two, or none where `bytes` is 0.
 pub fn regions(machine: Machine, bytes: u64) -> Vec<RamRegion> {
-    let low = if bytes >= machine.split_from() { machine.split() } else { bytes };
+    let low = if bytes >= machine.split_from() {
+        machine.split()
+    } else {
+        bytes
+    };
     let parts = [
-        RamRegion { address: 0, offset: 0, bytes: low },
-        RamRegion { address: HIGH, offset: low, bytes: bytes - low },
+        RamRegion {
+            address: 0,
+            offset: 0,
+            bytes: low,
+        },
+        RamRegion {
+            address: HIGH,
+            offset: low,
+            bytes: bytes - low,
+        },
     ];
     parts.into_iter().filter(|region| region.bytes > 0).collect()
 }
@@ -111,21 +123,53 @@ mod tests {
     const MIB: u64 = 1 << 20;
 
     fn low(bytes: u64) -> Vec<RamRegion> {
-        vec![RamRegion { address: 0, offset: 0, bytes }]
+        vec![RamRegion {
+            address: 0,
+            offset: 0,
+            bytes,
+        }]
     }
 
     fn split(at: u64, bytes: u64) -> Vec<RamRegion> {
-        let first = RamRegion { address: 0, offset: 0, bytes: at };
-        vec![first, RamRegion { address: 1 << 32, offset: at, bytes: bytes - at }]
+        let first = RamRegion {
+            address: 0,
+            offset: 0,
+            bytes: at,
+        };
+        vec![
+            first,
+            RamRegion {
+                address: 1 << 32,
+                offset: at,
+                bytes: bytes - at,
+            },
+        ]
     }
 
     /// What `info mtree -f` of QEMU 11.1.3 shows for `-M q35 -m SIZE`. At 2,816 MiB the RAM is split already: the former program had it whole.
     #[test]
     fn q35_splits_from_2816_mib_on() {
-        for bytes in [4096, MIB, 512 * MIB, 2048 * MIB, 2048 * MIB + 4096, 2815 * MIB, 2816 * MIB - 8192, 2816 * MIB - 4096] {
+        for bytes in [
+            4096,
+            MIB,
+            512 * MIB,
+            2048 * MIB,
+            2048 * MIB + 4096,
+            2815 * MIB,
+            2816 * MIB - 8192,
+            2816 * MIB - 4096,
+        ] {
             assert_eq!(regions(Machine::Q35, bytes), low(bytes), "{bytes:#x}");
         }
-        for bytes in [2816 * MIB, 2816 * MIB + 4096, 2817 * MIB, 3584 * MIB, 4096 * MIB, 5120 * MIB, 1 << 46] {
+        for bytes in [
+            2816 * MIB,
+            2816 * MIB + 4096,
+            2817 * MIB,
+            3584 * MIB,
+            4096 * MIB,
+            5120 * MIB,
+            1 << 46,
+        ] {
             assert_eq!(regions(Machine::Q35, bytes), split(2048 * MIB, bytes), "{bytes:#x}");
         }
     }
@@ -133,10 +177,25 @@ mod tests {
     /// The same for `-M pc`: a Read to 4 GiB of a guest of 4 GiB overwrote another page, since the former program had q35's split.
     #[test]
     fn pc_splits_from_3584_mib_on() {
-        for bytes in [4096, 2816 * MIB, 3071 * MIB, 3072 * MIB, 3073 * MIB, 3583 * MIB, 3584 * MIB - 4096] {
+        for bytes in [
+            4096,
+            2816 * MIB,
+            3071 * MIB,
+            3072 * MIB,
+            3073 * MIB,
+            3583 * MIB,
+            3584 * MIB - 4096,
+        ] {
             assert_eq!(regions(Machine::Pc, bytes), low(bytes), "{bytes:#x}");
         }
-        for bytes in [3584 * MIB, 3584 * MIB + 4096, 3585 * MIB, 4096 * MIB, 5120 * MIB, 1 << 46] {
+        for bytes in [
+            3584 * MIB,
+            3584 * MIB + 4096,
+            3585 * MIB,
+            4096 * MIB,
+            5120 * MIB,
+            1 << 46,
+        ] {
             assert_eq!(regions(Machine::Pc, bytes), split(3072 * MIB, bytes), "{bytes:#x}");
         }
         let four = regions(Machine::Pc, 4096 * MIB);
@@ -162,7 +221,11 @@ mod tests {
 
     #[test]
     fn a_region_has_what_lies_in_it_whole() {
-        let region = RamRegion { address: 0x1000, offset: 0, bytes: 0x2000 };
+        let region = RamRegion {
+            address: 0x1000,
+            offset: 0,
+            bytes: 0x2000,
+        };
         assert!(region.has(0x1000, 0x2000) && region.has(0x2fff, 1) && region.has(0x3000, 0));
         assert!(!region.has(0xfff, 2) && !region.has(0x2fff, 2) && !region.has(0x3001, 0));
         assert!(!region.has(u64::MAX, 1) && !region.has(0x1000, u64::MAX));

@@ -8,8 +8,9 @@ use std::time::Duration;
 
 use super::words::{number, shown, size, small};
 use super::{
-    Doorbells, DriveConfig, ExtentConfig, Interrupts, MOST_DRIVE_BLOCKS, MOST_EXTENTS, MOST_EXTENTS_IN_ALL, MOST_GUESTS,
-    MOST_GUEST_BLOCKS, MOST_LANES, MOST_MEMORY, MOST_PATH, MOST_SOCKET, MOST_WORDS, MOST_WORDS_OF_START, TAGS,
+    Doorbells, DriveConfig, ExtentConfig, Interrupts, MOST_DRIVE_BLOCKS, MOST_EXTENTS, MOST_EXTENTS_IN_ALL,
+    MOST_GUESTS, MOST_GUEST_BLOCKS, MOST_LANES, MOST_MEMORY, MOST_PATH, MOST_SOCKET, MOST_WORDS, MOST_WORDS_OF_START,
+    TAGS,
 };
 use crate::machine::Machine;
 
@@ -58,20 +59,90 @@ struct Kind {
 }
 
 const KINDS: [Kind; 14] = [
-    Kind { name: "guest", least: 4, most: 5, act: Draft::on_guest },
-    Kind { name: "extent", least: 4, most: 4, act: Draft::on_extent },
-    Kind { name: "share", least: 3, most: 3, act: Draft::on_share },
-    Kind { name: "descriptors", least: 3, most: 3, act: Draft::on_descriptors },
-    Kind { name: "version", least: 3, most: 3, act: Draft::on_version },
-    Kind { name: "machine", least: 3, most: 3, act: Draft::on_machine },
-    Kind { name: "trust", least: 2, most: 2, act: Draft::on_trust },
-    Kind { name: "doorbells", least: 3, most: 3, act: Draft::on_doorbells },
-    Kind { name: "interrupts", least: 3, most: 3, act: Draft::on_interrupts },
-    Kind { name: "listen", least: 3, most: 3, act: Draft::on_listen },
-    Kind { name: "start", least: 3, most: MOST_WORDS, act: Draft::on_start },
-    Kind { name: "drive", least: 3, most: 4, act: Draft::on_drive },
-    Kind { name: "lanes", least: 2, most: 2, act: Draft::on_lanes },
-    Kind { name: "spin", least: 2, most: 2, act: Draft::on_spin },
+    Kind {
+        name: "guest",
+        least: 4,
+        most: 5,
+        act: Draft::on_guest,
+    },
+    Kind {
+        name: "extent",
+        least: 4,
+        most: 4,
+        act: Draft::on_extent,
+    },
+    Kind {
+        name: "share",
+        least: 3,
+        most: 3,
+        act: Draft::on_share,
+    },
+    Kind {
+        name: "descriptors",
+        least: 3,
+        most: 3,
+        act: Draft::on_descriptors,
+    },
+    Kind {
+        name: "version",
+        least: 3,
+        most: 3,
+        act: Draft::on_version,
+    },
+    Kind {
+        name: "machine",
+        least: 3,
+        most: 3,
+        act: Draft::on_machine,
+    },
+    Kind {
+        name: "trust",
+        least: 2,
+        most: 2,
+        act: Draft::on_trust,
+    },
+    Kind {
+        name: "doorbells",
+        least: 3,
+        most: 3,
+        act: Draft::on_doorbells,
+    },
+    Kind {
+        name: "interrupts",
+        least: 3,
+        most: 3,
+        act: Draft::on_interrupts,
+    },
+    Kind {
+        name: "listen",
+        least: 3,
+        most: 3,
+        act: Draft::on_listen,
+    },
+    Kind {
+        name: "start",
+        least: 3,
+        most: MOST_WORDS,
+        act: Draft::on_start,
+    },
+    Kind {
+        name: "drive",
+        least: 3,
+        most: 4,
+        act: Draft::on_drive,
+    },
+    Kind {
+        name: "lanes",
+        least: 2,
+        most: 2,
+        act: Draft::on_lanes,
+    },
+    Kind {
+        name: "spin",
+        least: 2,
+        most: 2,
+        act: Draft::on_spin,
+    },
 ];
 
 /// The versions that a guest may be shown, as the property VS has them: major in bits 31:16, minor in 15:8, tertiary in 7:0.
@@ -109,7 +180,9 @@ impl Draft {
         }
         if index != self.guests.len() {
             let next = self.guests.len();
-            return Err(format!("guests are numbered from 0 in order: this one should be {next}"));
+            return Err(format!(
+                "guests are numbered from 0 in order: this one should be {next}"
+            ));
         }
         if word(words, 2) != b"memory" {
             return Err(format!("'memory' is expected, not '{}'", shown(word(words, 2))));
@@ -117,7 +190,9 @@ impl Draft {
         let memory = size("the guest's memory", word(words, 3), MOST_MEMORY)?;
         let others: u64 = self.guests.iter().map(|g| g.memory).sum();
         if memory > MOST_MEMORY - others {
-            return Err(format!("the guests' memories are more than {MOST_MEMORY} bytes together"));
+            return Err(format!(
+                "the guests' memories are more than {MOST_MEMORY} bytes together"
+            ));
         }
         let file = match words.get(4) {
             Some(path) => Some(self.new_file("the guest's memory", path)?),
@@ -174,7 +249,10 @@ impl Draft {
         if let Some(former) = &guest.share {
             return Err(format!("the guest's share is in line {} already", former.line));
         }
-        guest.share = Some(Said { value: small("the share of tags", word(words, 2), 1, TAGS)?, line });
+        guest.share = Some(Said {
+            value: small("the share of tags", word(words, 2), 1, TAGS)?,
+            line,
+        });
         Ok(())
     }
 
@@ -192,7 +270,10 @@ impl Draft {
         once(&guest.version, "the guest's version stands")?;
         let name = word(words, 2);
         let Some((_, value)) = VERSIONS.iter().find(|(known, _)| *known == name) else {
-            return Err(format!("the version is none of 1.0, 1.1, 1.2, 1.2.1, 1.3, 1.4 and 2.0: {}", shown(name)));
+            return Err(format!(
+                "the version is none of 1.0, 1.1, 1.2, 1.2.1, 1.3, 1.4 and 2.0: {}",
+                shown(name)
+            ));
         };
         guest.version = Some(*value);
         Ok(())
@@ -202,7 +283,11 @@ impl Draft {
     fn on_machine(&mut self, line: u32, words: &[Vec<u8>]) -> Outcome {
         let guest = self.guest_of(words)?;
         once(&guest.machine, "the guest's machine stands")?;
-        let value = one_of("the machine", word(words, 2), [("q35", Machine::Q35), ("pc", Machine::Pc)])?;
+        let value = one_of(
+            "the machine",
+            word(words, 2),
+            [("q35", Machine::Q35), ("pc", Machine::Pc)],
+        )?;
         guest.machine = Some(Said { value, line });
         Ok(())
     }
@@ -220,7 +305,10 @@ impl Draft {
         let guest = self.guest_of(words)?;
         once(&guest.doorbells, "how the guest rings its doorbells stands")?;
         let known = [("page", Doorbells::Page), ("messages", Doorbells::Messages)];
-        guest.doorbells = Some(Said { value: one_of("the kind of doorbells", word(words, 2), known)?, line });
+        guest.doorbells = Some(Said {
+            value: one_of("the kind of doorbells", word(words, 2), known)?,
+            line,
+        });
         Ok(())
     }
 
@@ -259,7 +347,10 @@ impl Draft {
         if guest.start.is_none() && word(words, 2).is_empty() {
             return Err(String::from("the program to start has an empty name"));
         }
-        let start = guest.start.get_or_insert(Said { value: Vec::new(), line });
+        let start = guest.start.get_or_insert(Said {
+            value: Vec::new(),
+            line,
+        });
         let new = words.get(2..).unwrap_or_default();
         if start.value.len() + new.len() > MOST_WORDS_OF_START {
             return Err(format!("the guest's program has more than {MOST_WORDS_OF_START} words"));
@@ -282,7 +373,9 @@ impl Draft {
             },
             (b"qemu", None) => return Err(String::from("'drive qemu' has a socket and the file of its memory")),
             (b"vfio", Some(_)) => return Err(String::from("'drive vfio' has one address")),
-            (b"vfio", None) => DriveConfig::Vfio { address: pci_address(word(words, 2))? },
+            (b"vfio", None) => DriveConfig::Vfio {
+                address: pci_address(word(words, 2))?,
+            },
             (kind, _) => return Err(format!("the drive is none of ram, qemu and vfio: {}", shown(kind))),
         };
         self.drive = Some(Said { value, line });
@@ -313,7 +406,9 @@ impl Draft {
     }
 
     fn guest(&mut self, index: usize) -> Result<&mut GuestDraft, String> {
-        self.guests.get_mut(index).ok_or_else(|| format!("guest {index} has no line 'guest' before this one"))
+        self.guests
+            .get_mut(index)
+            .ok_or_else(|| format!("guest {index} has no line 'guest' before this one"))
     }
 
     /// The guest that word 1 names.
@@ -330,7 +425,11 @@ impl Draft {
             Some(DriveConfig::Qemu { memory, .. }) => Some(memory),
             _ => None,
         };
-        if of_drive.into_iter().chain(self.guests.iter().filter_map(|g| g.file.as_ref())).any(|taken| *taken == new) {
+        if of_drive
+            .into_iter()
+            .chain(self.guests.iter().filter_map(|g| g.file.as_ref()))
+            .any(|taken| *taken == new)
+        {
             return Err(format!("{what} has a file that stands in a former line already"));
         }
         Ok(new)
@@ -385,7 +484,10 @@ fn pci_address(text: &[u8]) -> Result<String, String> {
         && matches!(text.get(8), Some(b'0' | b'1'))
         && matches!(text.get(11), Some(b'0'..=b'7'));
     if !fits {
-        return Err(format!("the drive's address is not of the form 0000:01:00.0: {}", shown(text)));
+        return Err(format!(
+            "the drive's address is not of the form 0000:01:00.0: {}",
+            shown(text)
+        ));
     }
     Ok(String::from_utf8_lossy(text).into_owned())
 }

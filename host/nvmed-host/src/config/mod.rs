@@ -235,7 +235,9 @@ impl Config {
         for of_line in text.split(|byte| *byte == b'\n') {
             line += 1;
             let words = words::cut(of_line).map_err(|what| ConfigError::Line { line, what })?;
-            draft.take(line, &words).map_err(|what| ConfigError::Line { line, what })?;
+            draft
+                .take(line, &words)
+                .map_err(|what| ConfigError::Line { line, what })?;
         }
         whole::finish(draft, line).map_err(|(line, what)| ConfigError::Line { line, what })
     }
@@ -244,12 +246,21 @@ impl Config {
     ///
     /// Errors: [`ConfigError::Open`], [`ConfigError::Read`], [`ConfigError::File`]. Each begins with the path.
     pub fn read(path: &Path) -> Result<Self, ConfigError> {
-        let file = File::open(path).map_err(|error| ConfigError::Open { path: path.into(), error })?;
+        let file = File::open(path).map_err(|error| ConfigError::Open {
+            path: path.into(),
+            error,
+        })?;
         let mut bytes = Vec::new();
         file.take(MOST_BYTES as u64 + 1)
             .read_to_end(&mut bytes)
-            .map_err(|error| ConfigError::Read { path: path.into(), error })?;
-        Self::parse(&bytes).map_err(|error| ConfigError::File { path: path.into(), error: Box::new(error) })
+            .map_err(|error| ConfigError::Read {
+                path: path.into(),
+                error,
+            })?;
+        Self::parse(&bytes).map_err(|error| ConfigError::File {
+            path: path.into(),
+            error: Box::new(error),
+        })
     }
 
     /// Blocks that the drive must have: the end of the last extent. At least 1, at most 2^48.
@@ -259,7 +270,9 @@ impl Config {
 
     /// The guest that has a block of the drive, if one has.
     pub fn owner(&self, block: u64) -> Option<usize> {
-        self.extents().find(|(_, e)| block >= e.base && block < e.end()).map(|(guest, _)| guest)
+        self.extents()
+            .find(|(_, e)| block >= e.base && block < e.end())
+            .map(|(guest, _)| guest)
     }
 
     /// How many of each lane's tags each guest may hold: that of its line, or one for each extent and its part of the tags that are left.
@@ -268,11 +281,17 @@ impl Config {
         let left = TAGS.saturating_sub(self.guests.iter().map(least).sum());
         let unnamed = self.guests.iter().filter(|g| g.share.is_none()).count() as u32;
         let more = left.checked_div(unnamed).unwrap_or(0);
-        self.guests.iter().map(|g| g.share.unwrap_or(g.extents.len() as u32 + more)).collect()
+        self.guests
+            .iter()
+            .map(|g| g.share.unwrap_or(g.extents.len() as u32 + more))
+            .collect()
     }
 
     fn extents(&self) -> impl Iterator<Item = (usize, &ExtentConfig)> {
-        self.guests.iter().enumerate().flat_map(|(i, g)| g.extents.iter().map(move |e| (i, e)))
+        self.guests
+            .iter()
+            .enumerate()
+            .flat_map(|(i, g)| g.extents.iter().map(move |e| (i, e)))
     }
 }
 

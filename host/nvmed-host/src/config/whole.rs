@@ -47,20 +47,30 @@ fn finish_guest(number: usize, guest: GuestDraft, drive: &DriveConfig) -> Result
         return fault(format!("guest {number} has no line 'extent'"));
     }
     if matches!(drive, DriveConfig::Qemu { .. }) && guest.file.is_none() {
-        return fault(format!("guest {number} needs a file of memory, which the drive's QEMU maps, too"));
+        return fault(format!(
+            "guest {number} needs a file of memory, which the drive's QEMU maps, too"
+        ));
     }
     let (connection, line) = match (guest.listen, guest.start) {
         (Some(listen), None) => (Connection::Listen(listen.value), listen.line),
         (None, Some(start)) => (Connection::Start(start.value), start.line),
         _ => return fault(format!("guest {number} has no line 'listen' or 'start'")),
     };
-    if matches!((drive, &connection, &guest.file), (DriveConfig::Vfio { .. }, Connection::Listen(_), None)) {
-        return fault(format!("guest {number} needs a file of memory, which the drive is given before a client comes"));
+    if matches!(
+        (drive, &connection, &guest.file),
+        (DriveConfig::Vfio { .. }, Connection::Listen(_), None)
+    ) {
+        return fault(format!(
+            "guest {number} needs a file of memory, which the drive is given before a client comes"
+        ));
     }
     if let DriveConfig::Ram { bytes, .. } = drive {
         let blocks = bytes / BLOCK;
         if let Some(beyond) = guest.extents.iter().find(|e| e.end() > blocks) {
-            return Err((beyond.line, format!("the extent of guest {number} ends beyond the drive's {blocks} blocks")));
+            return Err((
+                beyond.line,
+                format!("the extent of guest {number} ends beyond the drive's {blocks} blocks"),
+            ));
         }
     }
     let interrupts = guest.interrupts.unwrap_or_default();
@@ -96,7 +106,10 @@ fn machine_of(
         return Ok(said.map_or_else(Machine::default, |said| said.value));
     };
     if memory % QEMU_MEMORY_STEP != 0 {
-        return Err((line, format!("QEMU needs a memory of guest {number} that is a multiple of {QEMU_MEMORY_STEP} bytes")));
+        return Err((
+            line,
+            format!("QEMU needs a memory of guest {number} that is a multiple of {QEMU_MEMORY_STEP} bytes"),
+        ));
     }
     let Some(name) = process::machine_type(words) else {
         return Ok(said.map_or_else(Machine::default, |said| said.value));
@@ -107,7 +120,10 @@ fn machine_of(
             Err((line, format!("guest {number}: {what}: {name}")))
         }
         (Some(named), Some(said)) if named != said.value => {
-            let what = format!("the machine of guest {number} is {}, and its QEMU is started as {name}", said.value);
+            let what = format!(
+                "the machine of guest {number} is {}, and its QEMU is started as {name}",
+                said.value
+            );
             Err((said.line, what))
         }
         (Some(named), _) => Ok(named),
@@ -117,9 +133,18 @@ fn machine_of(
 /// A client takes the page away at each interrupt by the pin, and messages could overtake what was stored there.
 fn doorbells_of(number: usize, said: Option<Said<Doorbells>>, interrupts: Interrupts) -> Result<Doorbells, Fault> {
     match (said, interrupts) {
-        (Some(Said { value: Doorbells::Page, line }), Interrupts::Pin) => {
+        (
+            Some(Said {
+                value: Doorbells::Page,
+                line,
+            }),
+            Interrupts::Pin,
+        ) => {
             let what = "rings by a page, which goes with 'interrupts messages' alone";
-            Err((line, format!("guest {number} {what}: say 'doorbells {number} messages'")))
+            Err((
+                line,
+                format!("guest {number} {what}: say 'doorbells {number} messages'"),
+            ))
         }
         (Some(said), _) => Ok(said.value),
         (None, Interrupts::Pin) => Ok(Doorbells::Messages),
@@ -134,7 +159,8 @@ fn shares_fit(guests: &[GuestConfig]) -> Result<(), Fault> {
         let needed = guest.extents.len() as u32;
         let share = guest.share.unwrap_or(needed);
         if share < needed {
-            let what = format!("the share of guest {number} is less than the {needed} tags that a command of it may need");
+            let what =
+                format!("the share of guest {number} is less than the {needed} tags that a command of it may need");
             return Err((guest.lines.share, what));
         }
         all += share;

@@ -35,7 +35,10 @@ pub(super) fn cut(line: &[u8]) -> Result<Vec<Vec<u8>>, String> {
 
 /// A word without quotes, and what follows it.
 fn plain(text: &[u8], number: usize) -> Result<(Vec<u8>, &[u8]), String> {
-    let end = text.iter().position(|byte| matches!(byte, b' ' | b'#')).unwrap_or(text.len());
+    let end = text
+        .iter()
+        .position(|byte| matches!(byte, b' ' | b'#'))
+        .unwrap_or(text.len());
     let (word, rest) = text.split_at(end);
     if word.contains(&b'"') {
         return Err(format!("a quote stands in the middle of word {number}"));
@@ -58,7 +61,11 @@ fn quoted(text: &[u8], number: usize) -> Result<(Vec<u8>, &[u8]), String> {
                 word.push(*byte);
                 rest = after;
             }
-            [b'\\', ..] => return Err(format!("after a backslash there is no quote or backslash in word {number}")),
+            [b'\\', ..] => {
+                return Err(format!(
+                    "after a backslash there is no quote or backslash in word {number}"
+                ))
+            }
             [byte, after @ ..] => {
                 word.push(*byte);
                 rest = after;
@@ -74,7 +81,9 @@ fn quoted(text: &[u8], number: usize) -> Result<(Vec<u8>, &[u8]), String> {
 /// The first 40 bytes of a word, for a message.
 pub(super) fn shown(word: &[u8]) -> String {
     let text = String::from_utf8_lossy(word.get(..40).unwrap_or(word)).into_owned();
-    text.chars().map(|c| if c.is_control() { char::REPLACEMENT_CHARACTER } else { c }).collect()
+    text.chars()
+        .map(|c| if c.is_control() { char::REPLACEMENT_CHARACTER } else { c })
+        .collect()
 }
 
 /// Reads digits from the begin of a text: the number and what follows. `None` where there is no digit, or the number is 2^64 or more.
@@ -83,7 +92,10 @@ fn digits(text: &[u8]) -> Option<(u64, &[u8])> {
         [b'0', b'x', rest @ ..] => (16, rest),
         _ => (10, text),
     };
-    let end = text.iter().position(|byte| !char::from(*byte).is_digit(radix)).unwrap_or(text.len());
+    let end = text
+        .iter()
+        .position(|byte| !char::from(*byte).is_digit(radix))
+        .unwrap_or(text.len());
     let (number, rest) = text.split_at(end);
     let number = std::str::from_utf8(number).ok()?;
     Some((u64::from_str_radix(number, radix).ok()?, rest))

@@ -14,7 +14,7 @@ use crate::machine::{self, Machine, RamRegion, LEGACY_HOLE};
 
 /// What a DMA_MAP with a descriptor says.
 #[derive(Clone, Copy, Debug, PartialEq, Eq)]
-pub struct DmaMap {
+pub struct MapRequest {
     /// The guest address of its first byte.
     pub address: u64,
     /// Its length in bytes.
@@ -48,7 +48,7 @@ const TSEG_MOST: u64 = 64 << 20;
 #[derive(Clone, Copy, Debug, PartialEq, Eq)]
 pub struct Refusal {
     what: Difference,
-    map: DmaMap,
+    map: MapRequest,
     machine: Machine,
     memory: u64,
 }
@@ -85,7 +85,11 @@ impl std::error::Error for Refusal {}
 impl fmt::Display for Refusal {
     fn fmt(&self, to: &mut fmt::Formatter<'_>) -> fmt::Result {
         let m = &self.map;
-        write!(to, "memory of {:#x} bytes at {:#x} (offset {:#x}) ", m.bytes, m.address, m.offset)?;
+        write!(
+            to,
+            "memory of {:#x} bytes at {:#x} (offset {:#x}) ",
+            m.bytes, m.address, m.offset
+        )?;
         match self.what {
             Difference::NoPages => return write!(to, "is not of whole pages: is there an emulated I/O MMU? It has to go"),
             Difference::OtherFile => {
@@ -96,12 +100,19 @@ impl fmt::Display for Refusal {
             Difference::Outside => write!(to, "is no part of a machine")?,
             Difference::Offset { expected } => write!(to, "should be at the offset {expected:#x}, as in a machine")?,
         }
-        write!(to, " of type {} with -m {}B, whose memory lies at", self.machine, self.memory)?;
+        write!(
+            to,
+            " of type {} with -m {}B, whose memory lies at",
+            self.machine, self.memory
+        )?;
         for (i, r) in machine::regions(self.machine, self.memory).iter().enumerate() {
             let and = if i > 0 { " and" } else { "" };
             write!(to, "{and} {:#x} to {:#x}", r.address, r.address.saturating_add(r.bytes))?;
         }
-        write!(to, ": give it as much with -m, and the type that the line 'machine' says, without an emulated I/O MMU")
+        write!(
+            to,
+            ": give it as much with -m, and the type that the line 'machine' says, without an emulated I/O MMU"
+        )
     }
 }
 
@@ -122,7 +133,15 @@ impl Expected {
     /// known: then each file is as good as another.
     pub fn new(machine: Machine, bytes: u64, host: u64, file: Option<Identity>) -> Self {
         let regions = machine::regions(machine, bytes);
-        Self { machine, bytes, regions, host, file, shown: Ranges::default(), complete: false }
+        Self {
+            machine,
+            bytes,
+            regions,
+            host,
+            file,
+            shown: Ranges::default(),
+            complete: false,
+        }
     }
 
     /// Says which file is the guest's, or that none is any more.
@@ -135,8 +154,15 @@ impl Expected {
     /// A part may be read only where the machine's legacy hole lies: there a chipset write-protects the BIOS's copies.
     ///
     /// Errors: the first difference that there is.
-    pub fn holds(&self, map: &DmaMap, file: Identity) -> Result<Part, Refusal> {
-        let refuse = |what| Err(Refusal { what, map: *map, machine: self.machine, memory: self.bytes });
+    pub fn holds(&self, map: &MapRequest, file: Identity) -> Result<Part, Refusal> {
+        let refuse = |what| {
+            Err(Refusal {
+                what,
+                map: *map,
+                machine: self.machine,
+                memory: self.bytes,
+            })
+        };
         if map.bytes == 0 || [map.address, map.bytes, map.offset].iter().any(|n| n % PAGE != 0) {
             return refuse(Difference::NoPages);
         }
@@ -154,7 +180,11 @@ impl Expected {
         if !map.readable || !(map.writable || in_hole) {
             return refuse(Difference::Rights);
         }
-        Ok(Part { address: map.address, host: self.host + expected, bytes: map.bytes })
+        Ok(Part {
+            address: map.address,
+            host: self.host + expected,
+            bytes: map.bytes,
+        })
     }
 
     /// Notes that a part was shown.
@@ -166,8 +196,19 @@ impl Expected {
         }
         if !self.shown.add(part.address..part.address.saturating_add(part.bytes)) {
             let offset = part.host.saturating_sub(self.host);
-            let map = DmaMap { address: part.address, bytes: part.bytes, offset, readable: true, writable: true };
-            return Err(Refusal { what: Difference::TooManyParts, map, machine: self.machine, memory: self.bytes });
+            let map = MapRequest {
+                address: part.address,
+                bytes: part.bytes,
+                offset,
+                readable: true,
+                writable: true,
+            };
+            return Err(Refusal {
+                what: Difference::TooManyParts,
+                map,
+                machine: self.machine,
+                memory: self.bytes,
+            });
         }
         self.complete = self.missing().is_none();
         Ok(())
@@ -193,7 +234,11 @@ impl Expected {
     fn missing_of(&self, region: &RamRegion) -> Option<Range<u64>> {
         let mut at = region.address;
         let end = region.address.saturating_add(region.bytes);
-        let tseg = if self.machine == Machine::Q35 && region.address == 0 { TSEG_MOST.min(region.bytes / 2) } else { 0 };
+        let tseg = if self.machine == Machine::Q35 && region.address == 0 {
+            TSEG_MOST.min(region.bytes / 2)
+        } else {
+            0
+        };
         while at < end {
             if LEGACY_HOLE.contains(&at) {
                 at = LEGACY_HOLE.end;

@@ -31,7 +31,12 @@ struct Entry {
 }
 
 static TABLE: [Entry; MOST_WATCHED] = [const {
-    Entry { taken: AtomicBool::new(false), start: AtomicUsize::new(0), end: AtomicUsize::new(0), faults: AtomicU32::new(0) }
+    Entry {
+        taken: AtomicBool::new(false),
+        start: AtomicUsize::new(0),
+        end: AtomicUsize::new(0),
+        faults: AtomicU32::new(0),
+    }
 }; MOST_WATCHED];
 
 /// All faults that were answered by zeros, since the program began.
@@ -76,7 +81,9 @@ impl Watch {
 
     /// Faults of this piece since it is watched, or since [`Watch::forget`].
     pub fn faults(&self) -> u32 {
-        TABLE.get(self.index).map_or(0, |entry| entry.faults.load(Ordering::Acquire))
+        TABLE
+            .get(self.index)
+            .map_or(0, |entry| entry.faults.load(Ordering::Acquire))
     }
 
     /// Begins to count from 0: the piece has other memory now.

@@ -186,7 +186,11 @@ impl GuestFile {
         fcntl(fd.as_raw_fd(), FcntlArg::F_ADD_SEALS(seals)).map_err(|e| failed(e.into()))?;
         let claim = Identity::of(fd.as_fd()).map_err(failed)?;
         let claim = Claim::new(claim).ok_or_else(|| failed(Errno::EEXIST.into()))?;
-        Ok(Self { file: Held::Plain(fd), bytes, claim })
+        Ok(Self {
+            file: Held::Plain(fd),
+            bytes,
+            claim,
+        })
     }
 
     /// Opens a named file of `bytes` bytes and locks it. It is made where there is none, and made longer where it is empty: no page is allocated. Its
@@ -204,35 +208,62 @@ impl GuestFile {
             .mode(0o600)
             .custom_flags(OFlag::O_NONBLOCK.bits() | OFlag::O_NOFOLLOW.bits())
             .open(path)
-            .map_err(|error| FileError::Open { path: path.into(), error })?;
+            .map_err(|error| FileError::Open {
+                path: path.into(),
+                error,
+            })?;
         let about = file.metadata().map_err(FileError::Look)?;
         if !about.is_file() {
             return Err(FileError::NotRegular { name });
         }
-        let identity = Identity { device: about.dev(), inode: about.ino() };
+        let identity = Identity {
+            device: about.dev(),
+            inode: about.ino(),
+        };
         let claim = Claim::new(identity).ok_or_else(|| FileError::Used { name: name.clone() })?;
-        let file = Flock::lock(OwnedFd::from(file), FlockArg::LockExclusiveNonblock)
-            .map_err(|_| FileError::Used { name })?;
+        let file =
+            Flock::lock(OwnedFd::from(file), FlockArg::LockExclusiveNonblock).map_err(|_| FileError::Used { name })?;
         // the length counts once the lock is held
         let has = status(file.as_fd()).map_err(FileError::Look)?.stx_size;
         if has == 0 {
-            grow(file.as_fd(), bytes).map_err(|error| FileError::Grow { path: path.into(), bytes, error })?;
+            grow(file.as_fd(), bytes).map_err(|error| FileError::Grow {
+                path: path.into(),
+                bytes,
+                error,
+            })?;
         } else if has != bytes {
-            return Err(FileError::Length { path: path.into(), has, wanted: bytes });
+            return Err(FileError::Length {
+                path: path.into(),
+                has,
+                wanted: bytes,
+            });
         }
-        Ok(Self { file: Held::Locked(file), bytes, claim })
+        Ok(Self {
+            file: Held::Locked(file),
+            bytes,
+            claim,
+        })
     }
 
     /// Opens a named file that has to be there, whatever its length: such as the one that another program has made for its own memory.
     ///
     /// Errors: as of [`GuestFile::named`]; [`FileError::Length`] where it is empty.
     pub fn existing(path: &Path) -> Result<Self, FileError> {
-        let about = std::fs::symlink_metadata(path).map_err(|error| FileError::Open { path: path.into(), error })?;
+        let about = std::fs::symlink_metadata(path).map_err(|error| FileError::Open {
+            path: path.into(),
+            error,
+        })?;
         if !about.is_file() {
-            return Err(FileError::NotRegular { name: path.display().to_string() });
+            return Err(FileError::NotRegular {
+                name: path.display().to_string(),
+            });
         }
         if about.len() == 0 {
-            return Err(FileError::Length { path: path.into(), has: 0, wanted: PAGE });
+            return Err(FileError::Length {
+                path: path.into(),
+                has: 0,
+                wanted: PAGE,
+            });
         }
         Self::named(path, about.len())
     }
@@ -260,7 +291,10 @@ impl GuestFile {
             return Err(FileError::NotRegular { name: name() });
         }
         if about.stx_size < bytes {
-            return Err(FileError::Short { has: about.stx_size, wanted: bytes });
+            return Err(FileError::Short {
+                has: about.stx_size,
+                wanted: bytes,
+            });
         }
         let identity = Identity::of(file.as_fd()).map_err(FileError::Look)?;
         let claim = Claim::new(identity).ok_or_else(|| FileError::Used { name: name() })?;
@@ -306,7 +340,11 @@ fn seal(file: BorrowedFd<'_>) -> Result<SealFlag, Errno> {
 /// /proc, and the right to open the file). `Err` where another program has the lock.
 fn lock_anew(file: OwnedFd) -> Result<Held, Errno> {
     let path = format!("/proc/self/fd/{}", file.as_raw_fd());
-    let opened = OpenOptions::new().read(true).write(true).custom_flags(OFlag::O_NONBLOCK.bits()).open(path);
+    let opened = OpenOptions::new()
+        .read(true)
+        .write(true)
+        .custom_flags(OFlag::O_NONBLOCK.bits())
+        .open(path);
     match opened {
         Ok(own) => match Flock::lock(OwnedFd::from(own), FlockArg::LockExclusiveNonblock) {
             Ok(locked) => Ok(Held::Locked(locked)),

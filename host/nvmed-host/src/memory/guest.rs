@@ -5,7 +5,7 @@ use std::io;
 use std::os::fd::{AsFd, OwnedFd};
 use std::sync::Arc;
 
-use super::expected::{DmaMap, Expected, Part, Refusal};
+use super::expected::{Expected, MapRequest, Part, Refusal};
 use super::file::{FileError, GuestFile, Identity, Trust};
 use super::window::{MemoryError, Window};
 use crate::machine::Machine;
@@ -56,7 +56,14 @@ impl GuestMemory {
         let bytes = file.bytes();
         window.map_file(host, bytes, file.as_fd(), 0)?;
         let expected = Expected::new(machine, bytes, host, Some(file.identity()));
-        Ok(Self { window, host, bytes, file: Some(file), adopts: None, expected })
+        Ok(Self {
+            window,
+            host,
+            bytes,
+            file: Some(file),
+            adopts: None,
+            expected,
+        })
     }
 
     /// A guest with `bytes` bytes of memory whose file comes with its client's first part of memory.
@@ -71,7 +78,14 @@ impl GuestMemory {
     ) -> Result<Self, MemoryError> {
         window.map_zeros(host, bytes)?;
         let expected = Expected::new(machine, bytes, host, None);
-        Ok(Self { window, host, bytes, file: None, adopts: Some(trust), expected })
+        Ok(Self {
+            window,
+            host,
+            bytes,
+            file: None,
+            adopts: Some(trust),
+            expected,
+        })
     }
 
     /// The guest's file, where there is one.
@@ -93,7 +107,7 @@ impl GuestMemory {
     /// The descriptor is closed, or kept as the guest's file: so this is called in the guest's own thread, as a close may wait for the client.
     ///
     /// Errors: see [`MapError`]; nothing has changed then.
-    pub fn map(&mut self, map: &DmaMap, descriptor: OwnedFd) -> Result<Part, MapError> {
+    pub fn map(&mut self, map: &MapRequest, descriptor: OwnedFd) -> Result<Part, MapError> {
         let identity = Identity::of(descriptor.as_fd()).map_err(MapError::Look)?;
         let part = self.expected.holds(map, identity)?;
         if let (None, Some(trust)) = (&self.file, self.adopts) {

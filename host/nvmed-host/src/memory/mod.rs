@@ -10,7 +10,7 @@ mod file;
 mod guest;
 mod window;
 
-pub use expected::{DmaMap, Expected, Part, Refusal};
+pub use expected::{Expected, MapRequest, Part, Refusal};
 pub use file::{FileError, GuestFile, Identity, Trust};
 pub use guest::{GuestMemory, MapError};
 pub use window::{MemoryError, Piece, Window, MOST_PIECES, PAGE, WINDOW_END};

@@ -114,7 +114,12 @@ impl Window {
         }
         let length = usize::try_from(bytes).map_err(|_| MemoryError::NoRow(bytes))?;
         let base = reserve_aligned(length).map_err(|error| MemoryError::Reserve { bytes, error })?;
-        Ok(Arc::new(Self { base, bytes, pieces: [const { OnceLock::new() }; MOST_PIECES], changing: Mutex::new(()) }))
+        Ok(Arc::new(Self {
+            base,
+            bytes,
+            pieces: [const { OnceLock::new() }; MOST_PIECES],
+            changing: Mutex::new(()),
+        }))
     }
 
     /// Where host address 0 lies in this process.
@@ -132,8 +137,10 @@ impl Window {
     ///
     /// Errors: all but [`MemoryError::NoRow`] and [`MemoryError::Reserve`]; the window is as it was then.
     pub fn map_file(&self, host: u64, bytes: u64, file: BorrowedFd<'_>, offset: u64) -> Result<(), MemoryError> {
-        let offset = libc::off_t::try_from(offset)
-            .map_err(|_| MemoryError::Map { bytes, error: io::Error::from_raw_os_error(libc::EOVERFLOW) })?;
+        let offset = libc::off_t::try_from(offset).map_err(|_| MemoryError::Map {
+            bytes,
+            error: io::Error::from_raw_os_error(libc::EOVERFLOW),
+        })?;
         self.put(host, bytes, libc::MAP_SHARED, file.as_raw_fd(), offset)
     }
 
@@ -141,7 +148,13 @@ impl Window {
     ///
     /// Errors: as of [`Window::map_file`].
     pub fn map_zeros(&self, host: u64, bytes: u64) -> Result<(), MemoryError> {
-        self.put(host, bytes, libc::MAP_PRIVATE | libc::MAP_ANONYMOUS | libc::MAP_NORESERVE, -1, 0)
+        self.put(
+            host,
+            bytes,
+            libc::MAP_PRIVATE | libc::MAP_ANONYMOUS | libc::MAP_NORESERVE,
+            -1,
+            0,
+        )
     }
 
     /// `len` bytes from the host address `host` on, for accesses that take them as ones that others may write; `None` where `len` is 0, or where not all
@@ -174,7 +187,8 @@ impl Window {
     }
 
     fn piece_at(&self, host: u64) -> Option<&Watched> {
-        self.all().find(|w| host >= w.piece.host && host - w.piece.host < w.piece.bytes)
+        self.all()
+            .find(|w| host >= w.piece.host && host - w.piece.host < w.piece.bytes)
     }
 
     fn put(&self, host: u64, bytes: u64, flags: i32, file: i32, offset: libc::off_t) -> Result<(), MemoryError> {
@@ -191,10 +205,19 @@ impl Window {
             old.watch.forget();
             return Ok(());
         }
-        if let Some(met) = self.all().find(|w| w.piece.host < host + bytes && host < w.piece.host + w.piece.bytes) {
-            return Err(MemoryError::Meet { host: host.max(met.piece.host) });
+        if let Some(met) = self
+            .all()
+            .find(|w| w.piece.host < host + bytes && host < w.piece.host + w.piece.bytes)
+        {
+            return Err(MemoryError::Meet {
+                host: host.max(met.piece.host),
+            });
         }
-        let slot = self.pieces.iter().find(|slot| slot.get().is_none()).ok_or(MemoryError::TooMany)?;
+        let slot = self
+            .pieces
+            .iter()
+            .find(|slot| slot.get().is_none())
+            .ok_or(MemoryError::TooMany)?;
         let start = (self.base as usize).wrapping_add(host as usize);
         // SAFETY: the addresses are in the row, which is this window's until it is dropped, and the watch is dropped with it; accesses are volatile.
         let watch = unsafe { Watch::new(start, bytes as usize) }.map_err(|_| MemoryError::TooMany)?;
@@ -210,7 +233,10 @@ impl Window {
     /// elsewhere, to see whether it can be; and what fails nevertheless leaves zeros.
     fn map(&self, piece: Piece, flags: i32, file: i32, offset: libc::off_t) -> Result<(), MemoryError> {
         let length = piece.bytes as usize;
-        let failed = |error| MemoryError::Map { bytes: piece.bytes, error };
+        let failed = |error| MemoryError::Map {
+            bytes: piece.bytes,
+            error,
+        };
         // SAFETY: the place lies in the row, which is this window's alone, and no piece but this very one has a byte there. Whoever has a slice of it
         // accesses it by volatile accesses, which meet the former memory or the new one.
         unsafe {
@@ -251,6 +277,23 @@ unsafe fn map_pages(
         return Err(io::Error::last_os_error());
     }
     Ok(at)
+}
+
+// SAFETY: base and length never change, and the row is there until the window is dropped; a piece has memory from the moment at which `has` sees it until
+// then, whatever replaces it (`map`). No reference to its bytes is ever made: they are given out as volatile slices alone.
+unsafe impl nvmed::HostMemory for Window {
+    fn base(&self) -> *mut u8 {
+        self.base
+    }
+
+    fn len(&self) -> u64 {
+        self.bytes
+    }
+
+    fn has(&self, host: u64, bytes: u64) -> bool {
+        self.piece_at(host)
+            .is_some_and(|w| bytes <= w.piece.bytes - (host - w.piece.host))
+    }
 }
 
 impl Drop for Window {
