@@ -45,6 +45,13 @@ impl FromIterator<usize> for VectorSet {
     }
 }
 
+/// As a guest has set them: a vector that there is not is left out.
+impl FromIterator<u16> for VectorSet {
+    fn from_iter<I: IntoIterator<Item = u16>>(vectors: I) -> Self {
+        vectors.into_iter().map(usize::from).collect()
+    }
+}
+
 impl BitAnd for VectorSet {
     type Output = Self;
     fn bitand(self, other: Self) -> Self {
@@ -115,6 +122,12 @@ impl Logic {
     /// Whether INTx is signalled when something is pending, but for being raised already.
     pub(super) fn intx_open(&self) -> bool {
         self.intx_present && !self.intx_masked && !self.control.msix && !self.control.intx_off
+    }
+
+    /// INTx was signalled and not unmasked since.
+    #[cfg(test)]
+    pub(super) fn is_raised(&self) -> bool {
+        self.raised
     }
 
     fn raise(&mut self) -> bool {

@@ -67,7 +67,7 @@ fn nobody_reads() {
         assert!(line.contains(&format!("line {count} ")));
         count += 1;
     }
-    assert!(count >= LINES && count < 20_000);
+    assert!((LINES..20_000).contains(&count));
     assert!(log.flush(LONG));
 }
 
@@ -123,11 +123,32 @@ fn the_reader_is_gone() {
     assert!(log.flush(LONG));
 }
 
+/// The whole program's log is started in a process of its own.
 #[test]
 fn it_is_started_once() {
-    let hook = std::panic::take_hook();
-    let log = Log::start(LevelFilter::OFF).unwrap();
+    const CHILD: &str = "NVMED_HOST_TEST_CHILD";
+    if std::env::var_os(CHILD).is_none() {
+        let mut child = std::process::Command::new(std::env::current_exe().unwrap());
+        child
+            .args(["--exact", "--nocapture", "log::tests::it_is_started_once"])
+            .env(CHILD, "1");
+        let output = child.output().unwrap();
+        let text = String::from_utf8(output.stderr).unwrap();
+        assert!(output.status.success(), "{text}");
+        assert!(
+            text.contains("INFO  guest 2: begun\n") && !text.contains("hidden"),
+            "{text}"
+        );
+        assert!(
+            text.contains("ERROR the program has a fault: ") && text.contains("on purpose"),
+            "{text}"
+        );
+        return;
+    }
+    let log = Log::start(LevelFilter::INFO).unwrap();
     assert!(matches!(Log::start(LevelFilter::OFF), Err(LogError::Started)));
+    tracing::info!(guest = 2, "begun");
+    tracing::debug!("hidden");
+    assert!(std::thread::spawn(|| panic!("on purpose")).join().is_err());
     assert!(log.flush(LONG));
-    std::panic::set_hook(hook);
 }
