@@ -5,11 +5,12 @@
 
 #![forbid(unsafe_code)]
 
-pub mod accept;
 pub mod function;
 pub mod said;
 
+use std::ffi::OsString;
 use std::os::fd::{AsFd, BorrowedFd, OwnedFd};
+use std::sync::mpsc::Sender as Reporter;
 use std::sync::Arc;
 use std::time::{Duration, Instant};
 
@@ -20,17 +21,21 @@ use crate::doorbells::{Page, PageError};
 use crate::interrupts::{InterruptError, Signals};
 use crate::mediation::mailbox::Gone;
 use crate::mediation::outbox::{News, Outbox};
+use crate::machine::Machine;
+use crate::mediation::wake::Bell;
 use crate::memory::{DmaMap as MemoryMap, GuestMemory};
+use crate::process::{Listener, Process, ProcessError, STOP_WAIT};
 use crate::vfio_user::{
     pci_region, Answer, Connection, DeviceError, DmaMap, Error as ConnectionError, RegionRead, RegionWrite, Request,
     SmallWrite, Ticket,
 };
-use accept::Listener;
 use function::{Function, FunctionError};
 use said::Lines;
 
 /// A thread that waits looks around so often, whether something has happened or not.
 const ROUND: Duration = Duration::from_secs(1);
+/// How often a process is looked at that may end.
+const LOOK: Duration = Duration::from_millis(100);
 /// Bytes of the longest read of a region that is answered.
 const MOST_READ: usize = crate::pci::BAR_BYTES as usize;
 
@@ -39,8 +44,50 @@ const MOST_READ: usize = crate::pci::BAR_BYTES as usize;
 pub enum Source {
     /// Clients connect, one after the other.
     Listen(Listener),
-    /// One client, which is connected already.
-    Socket(OwnedFd),
+    /// One client, a QEMU that the guest's thread starts with these words.
+    Start {
+        /// The words.
+        words: Vec<OsString>,
+        /// The type of its machine.
+        machine: Machine,
+    },
+}
+
+/// What a guest's thread reports to the program's.
+#[derive(Debug)]
+pub enum Report {
+    /// Clients can connect, or the guest's QEMU was started; or why not.
+    Begun(usize, Result<(), ProcessError>),
+    /// The guest has ended: nobody will connect any more.
+    Over(usize),
+}
+
+/// Where it reports, and the bell of whoever reads it.
+#[derive(Clone, Debug)]
+pub struct Reports {
+    /// The queue.
+    pub queue: Reporter<Report>,
+    /// The bell.
+    pub bell: Arc<Bell>,
+}
+
+impl Reports {
+    fn send(&self, report: Report) {
+        // the program is at its end where nobody reads it
+        let _ended = self.queue.send(report);
+        self.bell.ring();
+    }
+}
+
+/// How clients come.
+#[derive(Debug)]
+enum Clients {
+    /// One after the other.
+    Listen(Listener),
+    /// A QEMU that was started, which connects once.
+    Started(Process, Option<Listener>),
+    /// Nobody comes.
+    Nobody,
 }
 
 /// What a guest's thread is made from.
@@ -61,6 +108,8 @@ pub struct Parts {
     pub pin: bool,
     /// Where its client comes from.
     pub source: Source,
+    /// Where it reports.
+    pub reports: Reports,
 }
 
 /// Why a connection is over.
@@ -102,6 +151,7 @@ impl Lost {
 
 /// A guest, as its thread has it.
 pub struct Guest {
+    number: usize,
     memory: GuestMemory,
     function: Function,
     outbox: Arc<Outbox>,
@@ -109,9 +159,13 @@ pub struct Guest {
     page: bool,
     pin: bool,
     source: Option<Source>,
+    clients: Clients,
+    reports: Reports,
     lines: Lines,
     /// Its memory was shown whole on this connection.
     complete: bool,
+    /// The program ends.
+    stopped: bool,
     buffer: Vec<u8>,
 }
 
@@ -120,6 +174,7 @@ impl Guest {
     #[must_use]
     pub fn new(parts: Parts) -> Self {
         Self {
+            number: parts.number,
             memory: parts.memory,
             function: parts.function,
             outbox: parts.outbox,
@@ -127,16 +182,43 @@ impl Guest {
             page: parts.page,
             pin: parts.pin,
             source: Some(parts.source),
+            clients: Clients::Nobody,
+            reports: parts.reports,
             lines: Lines::new(parts.number),
             complete: false,
+            stopped: false,
             buffer: Vec::new(),
         }
     }
 
-    /// Serves one client after the other; one that was connected at the start alone. Until the program ends.
+    /// Serves one client after the other; of a QEMU that is started here that one alone. Until the program ends.
     pub fn run(mut self) {
-        loop {
-            let Ok(Some(socket)) = self.next_client() else { break };
+        let begun = self.begin();
+        let good = begun.is_ok();
+        self.reports.send(Report::Begun(self.number, begun));
+        if good {
+            self.serve_all();
+        }
+        self.reports.send(Report::Over(self.number));
+        self.end();
+        self.lines.count();
+    }
+
+    /// A QEMU ends with the thread that started it: so this is the guest's own.
+    fn begin(&mut self) -> Result<(), ProcessError> {
+        self.clients = match (self.source.take(), self.memory.file()) {
+            (Some(Source::Listen(listener)), _) => Clients::Listen(listener),
+            (Some(Source::Start { words, machine }), Some(file)) => {
+                let (process, listener) = Process::start(&words, machine, file)?;
+                Clients::Started(process, Some(listener))
+            }
+            _ => Clients::Nobody,
+        };
+        Ok(())
+    }
+
+    fn serve_all(&mut self) {
+        while let Ok(Some(socket)) = self.next_client() {
             let lost = match self.serve(socket) {
                 Ok(never) => match never {},
                 Err(lost) => lost,
@@ -148,30 +230,67 @@ impl Guest {
                 break;
             }
         }
-        self.lines.count();
+        self.await_process(STOP_WAIT);
     }
 
     /// The next client: `None` where there will be none.
     fn next_client(&mut self) -> Result<Option<OwnedFd>, Lost> {
         loop {
-            let listener = match self.source.take() {
-                None => return Ok(None),
-                Some(Source::Socket(socket)) => return Ok(Some(socket)),
-                Some(Source::Listen(listener)) => listener,
+            let (listener, most) = match &mut self.clients {
+                Clients::Listen(listener) => (listener, ROUND),
+                Clients::Started(process, Some(listener)) => match process.ended() {
+                    Some(_) => return Ok(None),
+                    None => (listener, LOOK),
+                },
+                _ => return Ok(None),
             };
-            let accepted = listener.accept();
-            let waited = match accepted {
-                Some(_) => Ok(()),
-                None => wait(&[listener.fd(), self.outbox.fd()], ROUND),
-            };
-            self.source = Some(Source::Listen(listener));
-            waited.map_err(Lost::Wait)?;
-            if self.outbox.take().stop {
+            // such as too many open files: it is tried again later
+            let accepted = listener.accept().unwrap_or_else(|error| {
+                self.lines.warn(format_args!("its connection cannot be taken: {error}"));
+                None
+            });
+            if accepted.is_none() {
+                wait(&[listener.as_fd(), self.outbox.fd()], most).map_err(Lost::Wait)?;
+            }
+            self.stopped |= self.outbox.take().stop;
+            if self.stopped {
                 return Err(Lost::Stop);
             }
-            if let Some(socket) = accepted {
-                return Ok(Some(socket));
+            if accepted.is_some() {
+                if let Clients::Started(_, listener) = &mut self.clients {
+                    *listener = None;
+                }
+                return Ok(accepted);
             }
+        }
+    }
+
+    /// Waits for the end of the guest's own process, where it has one, and says how it ended: but no longer than that, nor than the program goes on.
+    fn await_process(&mut self, most: Duration) {
+        let Clients::Started(process, _) = &mut self.clients else {
+            return;
+        };
+        let begin = Instant::now();
+        loop {
+            if let Some(ended) = process.ended() {
+                self.lines.say(format_args!("its process {ended}"));
+                self.clients = Clients::Nobody;
+                return;
+            }
+            if self.stopped || begin.elapsed() >= most {
+                return;
+            }
+            // what wakes it before is looked at in the next round
+            let _woken = wait(&[self.outbox.fd()], LOOK);
+            self.stopped |= self.outbox.take().stop;
+        }
+    }
+
+    /// A QEMU that goes on without its drive may do so until the program ends.
+    fn end(&mut self) {
+        self.await_process(Duration::MAX);
+        if let Clients::Started(process, _) = &mut self.clients {
+            process.stop(STOP_WAIT);
         }
     }
 
@@ -222,6 +341,7 @@ impl Guest {
             return Ok(());
         }
         let News { cut_off, stop, .. } = self.outbox.take();
+        self.stopped |= stop;
         if stop {
             return Err(Lost::Stop);
         }
@@ -236,6 +356,7 @@ impl Guest {
         self.function.disconnect()?;
         loop {
             let news = self.outbox.take();
+            self.stopped |= news.stop;
             if news.stop {
                 return Err(Lost::Stop);
             }
@@ -247,7 +368,7 @@ impl Guest {
         if let Err(error) = self.memory.restart() {
             // its place has the memory that it had: the next client's cannot be put there
             self.lines.warn(error);
-            self.source = None;
+            self.clients = Clients::Nobody;
         }
         Ok(())
     }
