@@ -3,6 +3,10 @@
 //! The lanes' rings, lists and data lie in the [`Window`](crate::memory::Window). The mediator writes and reads them; the mediator's thread rings the
 //! doorbells here. No call waits for a controller but those that open one: what takes long goes on in threads of the drive's own.
 
+pub mod entry;
+pub mod prp;
+pub mod ram;
+
 use std::os::fd::BorrowedFd;
 
 /// Host addresses that a drive can reach: from `from` on, below `to`.
