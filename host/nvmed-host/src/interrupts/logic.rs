@@ -124,12 +124,6 @@ impl Logic {
         self.intx_present && !self.intx_masked && !self.control.msix && !self.control.intx_off
     }
 
-    /// INTx was signalled and not unmasked since.
-    #[cfg(test)]
-    pub(super) fn is_raised(&self) -> bool {
-        self.raised
-    }
-
     fn raise(&mut self) -> bool {
         let due = self.intx_open() && !self.raised && !self.pending.is_empty();
         self.raised |= due;

@@ -109,6 +109,14 @@ fn the_wake_up_comes_once_until_news_are_taken() {
             pending: set(&[2])
         }
     );
+    signals.publish(set(&[]), set(&[1])); // what is pending and was not counts as posted
+    assert_eq!(
+        signals.take(),
+        News {
+            posted: set(&[1]),
+            pending: set(&[1])
+        }
+    );
     signals.publish(set(&[]), set(&[])); // the level is down
     assert!(is_ready());
     assert_eq!((signals.take(), is_ready()), (News::default(), false));
@@ -346,6 +354,7 @@ struct Model {
     stirred: [bool; VECTORS],
     /// The queue's vector was signalled after its last completion, and after the vector's last change.
     told: [bool; VECTORS],
+    /// INTx was signalled since it was opened, unmasked or given another eventfd last. One signal stands for all until then.
     line_told: bool,
     /// Whether the guest acknowledges nothing but what an interrupt told it.
     waits: bool,
@@ -365,7 +374,7 @@ impl Model {
             waiting: [0; VECTORS],
             stirred: [false; VECTORS],
             told: [true; VECTORS],
-            line_told: true,
+            line_told: false,
             waits,
             signalled: Vec::new(),
         }
@@ -382,7 +391,6 @@ impl Model {
         self.waiting[queue] += 1;
         self.stirred[queue] = true;
         self.told[queue] = false;
-        self.line_told = false;
     }
 
     fn acknowledge(&mut self, queue: usize) {
@@ -494,9 +502,8 @@ impl Model {
                 "queue {queue} with vector {vector}"
             );
         }
-        // one signal of INTx stands for all until it is unmasked
         let any = self.waiting.iter().any(|&n| n > 0);
-        assert!(!any || !self.logic.intx_open() || self.line_told || self.logic.is_raised());
+        assert!(!any || !self.logic.intx_open() || self.line_told);
     }
 
     /// Everything is opened. A guest that acknowledges only what interrupts tell it gets to the end.
