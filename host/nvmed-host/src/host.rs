@@ -13,8 +13,10 @@ use nix::errno::Errno;
 use nix::poll::{poll, PollFd, PollFlags};
 use nix::sys::resource::{getrlimit, setrlimit, Resource};
 use nvmed::Mediator;
+use vm_memory::VolatileSlice;
 
 use crate::config::{Config, Connection, Doorbells, DriveConfig, GuestConfig, Interrupts, BLOCK};
+use crate::drive::prp::SharedMemory;
 use crate::drive::ram::RamDrive;
 use crate::drive::{Drive, DriveError};
 use crate::guest::function::Function;
@@ -124,6 +126,12 @@ pub struct Host {
     bell: Arc<Bell>,
     /// Guests that have not ended.
     left: usize,
+}
+
+impl SharedMemory for Window {
+    fn slice(&self, host: u64, len: usize) -> Option<VolatileSlice<'_>> {
+        Window::slice(self, host, len)
+    }
 }
 
 struct Counted(Statistics);
@@ -282,7 +290,7 @@ impl Host {
             if !self.is_over() {
                 let mut fds = [
                     PollFd::new(self.bell.fd(), PollFlags::POLLIN),
-                    PollFd::new(signals.wake().as_fd(), PollFlags::POLLIN),
+                    PollFd::new(signals.wake(), PollFlags::POLLIN),
                 ];
                 // an interruption is a round more
                 let _woken = poll(&mut fds, ROUND);

@@ -49,7 +49,7 @@ Status: 0 where all guests ended or a signal ended it, 1 where it could not begi
 fn words() -> Command {
     Command::new("nvmed-host")
         .about("Virtual machines share an NVMe drive through a proved mediator.")
-        .version(version())
+        .disable_version_flag(true)
         .after_help(LINES)
         .args_conflicts_with_subcommands(true)
         .subcommand_negates_reqs(true)
@@ -62,9 +62,15 @@ fn words() -> Command {
         .arg(
             Arg::new("configuration")
                 .value_name("CONFIGURATION")
-                .required(true)
+                .required_unless_present("version")
                 .value_parser(clap::value_parser!(PathBuf))
                 .help("The file of the configuration"),
+        )
+        .arg(
+            Arg::new("version")
+                .long("version")
+                .action(ArgAction::SetTrue)
+                .help("The version of the program and of its library, and whether that is proved"),
         )
         .subcommand(
             Command::new("check")
@@ -93,7 +99,7 @@ fn main() -> ExitCode {
     let matches = match words().try_get_matches() {
         Ok(matches) => matches,
         Err(error) => {
-            let asked = matches!(error.kind(), ErrorKind::DisplayHelp | ErrorKind::DisplayVersion);
+            let asked = error.kind() == ErrorKind::DisplayHelp;
             // a reader that is gone has nothing to be told
             let _gone = error.print();
             return ExitCode::from(if asked { ENDED } else { USAGE });
@@ -102,6 +108,10 @@ fn main() -> ExitCode {
     let path_of = |matches: &clap::ArgMatches, name| matches.get_one::<PathBuf>(name).cloned().unwrap_or_default();
     if let Some(("check", matches)) = matches.subcommand() {
         return ExitCode::from(check(&path_of(matches, "file")));
+    }
+    if matches.get_flag("version") {
+        println!("nvmed-host {}", version());
+        return ExitCode::from(ENDED);
     }
     ExitCode::from(run(&path_of(&matches, "configuration"), matches.get_flag("statistics")))
 }

@@ -23,7 +23,7 @@ use crate::mediation::mailbox::Gone;
 use crate::mediation::outbox::{News, Outbox};
 use crate::machine::Machine;
 use crate::mediation::wake::Bell;
-use crate::memory::{DmaMap as MemoryMap, GuestMemory};
+use crate::memory::{GuestMemory, MapRequest};
 use crate::process::{Listener, Process, ProcessError, STOP_WAIT};
 use crate::vfio_user::{
     pci_region, Answer, Connection, DeviceError, DmaMap, Error as ConnectionError, RegionRead, RegionWrite, Request,
@@ -423,7 +423,7 @@ impl Guest {
     /// What a client says of its machine's memory. Without a descriptor it is not the machine's RAM, and is never used.
     fn map(&mut self, map: DmaMap) -> Answer<'static> {
         let Some(fd) = map.fd else { return Answer::Done };
-        let compared = MemoryMap {
+        let compared = MapRequest {
             address: map.address,
             bytes: map.bytes,
             offset: map.offset,
