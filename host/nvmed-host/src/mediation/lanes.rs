@@ -47,6 +47,8 @@ pub struct Lanes {
     window: Arc<Window>,
     /// Commands that the drive has of each guest.
     counts: Vec<u32>,
+    /// Commands that the drive got so far, modulo 2^64.
+    sent: u64,
 }
 
 /// From one place of a ring to another.
@@ -81,6 +83,7 @@ impl Lanes {
             lanes: lanes.collect(),
             window,
             counts: vec![0; guests],
+            sent: 0,
         }
     }
 
@@ -115,6 +118,7 @@ impl Lanes {
                 let identifier = usize::from(u16::from_le_bytes([entry[2], entry[3]])) % IDENTIFIERS;
                 give(&mut lane.owners, &mut self.counts, identifier, owner);
                 lane.flying += 1;
+                self.sent = self.sent.wrapping_add(1);
                 seen(&entry);
             }
             lane.tail = now.tail;
@@ -164,6 +168,12 @@ impl Lanes {
             }
         }
         Ok(())
+    }
+
+    /// Commands that the drive got so far, modulo 2^64.
+    #[must_use]
+    pub fn sent(&self) -> u64 {
+        self.sent
     }
 
     /// Whether the drive has commands.

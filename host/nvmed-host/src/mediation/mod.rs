@@ -30,7 +30,7 @@ use crate::memory::Window;
 use client::Client;
 use failing::{Disk, Failure, Stopped, SILENCE};
 use lanes::Lanes;
-use pace::{longest, Waiting, TICK};
+use pace::{Pace, Waiting, TICK};
 use side::{Of, Side};
 use wake::Bell;
 
@@ -72,7 +72,7 @@ pub struct Parts<S: Side> {
     pub posts: Vec<Post>,
     /// The thread's bell, which the mailboxes ring.
     pub bell: Arc<Bell>,
-    /// For so long after its last event the thread goes on without a pause.
+    /// For so long after its last event the thread goes on without a pause, where that helps.
     pub spin: Duration,
     /// What each second is counted for, if it is.
     pub counts: Option<Box<dyn Counts>>,
@@ -118,13 +118,11 @@ pub struct Mediation<S: Side> {
     bell: Arc<Bell>,
     stop: Arc<AtomicBool>,
     counts: Option<Box<dyn Counts>>,
-    spin: Duration,
+    pace: Pace,
     /// More is due at once.
     due: bool,
     /// Of a lane more may be due.
     busy: bool,
-    /// When something was done last.
-    moved: Instant,
     /// When the drive was checked last.
     ticked: Instant,
     /// Faults of memory that were told.
@@ -154,10 +152,9 @@ impl<S: Side> Mediation<S> {
             bell: parts.bell,
             stop: Arc::new(AtomicBool::new(false)),
             counts: parts.counts,
-            spin: parts.spin,
+            pace: Pace::new(parts.spin, now),
             due: false,
             busy: false,
-            moved: now,
             ticked: now,
             faults: crate::memory::fault::all(),
         })
@@ -194,6 +191,7 @@ impl<S: Side> Mediation<S> {
 
     /// Carries out what guests ask for, and what is due, for some milliseconds at most.
     fn turn(&mut self, now: Instant) {
+        let sent = self.lanes.sent();
         let stirred = self.listen();
         let result = if stirred || self.due || self.lanes.are_flying() {
             self.work(now)
@@ -202,7 +200,8 @@ impl<S: Side> Mediation<S> {
         };
         let result = result.and_then(|worked| {
             if stirred || worked {
-                self.moved = if worked { Instant::now() } else { now };
+                let end = if worked { Instant::now() } else { now };
+                self.pace.note(now, end, self.lanes.sent().wrapping_sub(sent));
             }
             self.tick(now)
         });
@@ -419,13 +418,12 @@ impl<S: Side> Mediation<S> {
             Disk::Stopping(..) => (true, true),
             Disk::Gone(_) => (true, true),
         };
-        let pause = longest(Waiting {
+        let waiting = Waiting {
             due: self.due || self.clients.iter().any(Client::has_more),
             polled: self.lanes.are_flying() && !wakes,
             looked: self.clients.iter().any(Client::is_looked_at),
-            since: now.saturating_duration_since(self.moved),
-            spin: self.spin,
-        });
+        };
+        let pause = self.pace.longest(waiting, now);
         if stopping {
             pause.min(Duration::from_millis(20))
         } else {

@@ -485,18 +485,18 @@ fn an_idle_thread_sleeps() {
     rig.enable(0);
     rig.turn(Instant::now());
     let mediation = rig.mediation.as_mut().unwrap();
-    let later = Instant::now() + Duration::from_millis(10);
+    let later = Instant::now() + Duration::from_millis(100);
     assert_eq!(mediation.pause(later), TICK, "messages wake it: nothing is looked at");
     rig.guests[0].connect(Some(Arc::new(Page::new().unwrap()))).unwrap();
     rig.send(0, &[write_cc(1)]);
     rig.turn(Instant::now());
     let mediation = rig.mediation.as_mut().unwrap();
-    let later = Instant::now() + Duration::from_millis(10);
+    let later = Instant::now() + Duration::from_millis(100);
     assert_eq!(mediation.pause(later), pace::LOOK, "a page is looked at");
     rig.send(0, &[write_cc(0)]);
     rig.turn(Instant::now());
     let mediation = rig.mediation.as_mut().unwrap();
-    let later = Instant::now() + Duration::from_millis(10);
+    let later = Instant::now() + Duration::from_millis(100);
     assert_eq!(mediation.pause(later), TICK, "its controller is disabled");
 }
 
