@@ -366,3 +366,26 @@ fn check_pieces(memory: &impl HostMemory, set_up: &SetUp) -> Result<(), Error> {
     }
     Ok(())
 }
+
+#[cfg(test)]
+mod tests {
+    use super::*;
+    use vm_memory::MmapRegion;
+
+    /// Says by its number of implementations whether a type is `Sync`: of one that is, the name below is ambiguous.
+    trait IsNotSync<A> {
+        fn is_not_sync() {}
+    }
+    impl<T: ?Sized> IsNotSync<()> for T {}
+    #[allow(dead_code)]
+    struct OfSync;
+    impl<T: ?Sized + Sync> IsNotSync<OfSync> for T {}
+
+    fn is_send<T: Send>() {}
+
+    #[test]
+    fn a_mediator_may_go_to_another_thread_and_has_one_caller() {
+        is_send::<Mediator<MmapRegion>>();
+        <Mediator<MmapRegion> as IsNotSync<_>>::is_not_sync();
+    }
+}

@@ -1,5 +1,7 @@
 //! Which set-ups are refused, and by which error: of the library and of the stub alike.
 
+#![allow(clippy::unwrap_used)]
+
 mod common;
 
 use common::*;

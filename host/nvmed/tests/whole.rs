@@ -1,5 +1,6 @@
 //! Whole runs over the library: guests' controllers are brought up, and their commands are carried out by a drive of the test.
 #![cfg(not(feature = "stub"))]
+#![allow(clippy::unwrap_used)]
 
 mod common;
 

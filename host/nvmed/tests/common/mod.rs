@@ -63,6 +63,8 @@ pub struct Drive {
     phase: u32,
     /// What it adds to the identifiers of commands that it completes.
     pub lie: u16,
+    /// Whether it moves blocks, or completes commands alone.
+    pub moves: bool,
 }
 
 impl Drive {
@@ -74,6 +76,7 @@ impl Drive {
             posted: 0,
             phase: 1,
             lie: 0,
+            moves: true,
         }
     }
 
@@ -85,7 +88,9 @@ impl Drive {
             let at = rings.submission + 64 * u64::from(self.head);
             self.slice().read_slice(&mut entry, at as usize).unwrap();
             self.head = (self.head + 1) % rings.entries;
-            self.carry_out(&entry);
+            if self.moves {
+                self.carry_out(&entry);
+            }
             self.complete(rings, &entry);
         }
         moved
@@ -195,7 +200,7 @@ impl Guest {
     pub fn status(&self) -> Option<u32> {
         let last = self.sent - 1;
         let completion = self.get(IO_CQ + 16 * u64::from(last % 16), 16);
-        let phase = 1 ^ (last / 16 & 1);
+        let phase = 1 ^ ((last / 16) & 1);
         let word = dword(&completion, 12);
         (word >> 16 & 1 == phase).then_some(word >> 17)
     }
