@@ -10,177 +10,14 @@ use std::os::fd::{AsFd, OwnedFd};
 use std::sync::Arc;
 use std::time::Instant;
 
-use client::broken;
+use client::hostile::{odd_descriptors, Hostile, Random};
 use client::*;
 use nix::errno::Errno;
-use nvmed_host::vfio_user::wire::{DATA_MAX, DESCRIPTORS_MAX};
+use nvmed_host::vfio_user::wire::DATA_MAX;
 use nvmed_host::vfio_user::*;
 
 const ROUNDS: u64 = 20_000;
 const SOCKET_ROUNDS: u64 = 5_000;
-
-/// xorshift64*
-struct Random(u64);
-
-impl Random {
-    fn next(&mut self) -> u64 {
-        self.0 ^= self.0 >> 12;
-        self.0 ^= self.0 << 25;
-        self.0 ^= self.0 >> 27;
-        self.0.wrapping_mul(0x2545_f491_4f6c_dd1d)
-    }
-
-    fn below(&mut self, most: usize) -> usize {
-        (self.next() >> 16) as usize % most.max(1)
-    }
-
-    fn chance(&mut self, of_hundred: usize) -> bool {
-        self.below(100) < of_hundred
-    }
-
-    fn pick<'a, T>(&mut self, of: &'a [T]) -> &'a T {
-        &of[self.below(of.len())]
-    }
-}
-
-/// A message and how many descriptors go with it.
-type Sent = (Vec<u8>, usize);
-
-/// Good messages, and such as break a rule.
-struct Seeds {
-    good: Vec<Sent>,
-    broken: Vec<Sent>,
-}
-
-fn seeds() -> Seeds {
-    let event = DATA_EVENTFD | ACTION_TRIGGER;
-    let messages: [(u16, Vec<u8>, usize); 18] = [
-        (command::VERSION, qemu_version_payload(), 0),
-        (command::DMA_MAP, map_payload(3, 0, 0, 0x10000), 1),
-        (command::DMA_MAP, map_payload(3, 0x10000, 0x10000, 0x1000), 1),
-        (command::DMA_MAP, map_payload(1, 0, 0xc0000, 0x20000), 0),
-        (command::DMA_UNMAP, unmap_payload(0, 0, 0x10000), 0),
-        (command::DMA_UNMAP, unmap_payload(2, 0, 0), 0),
-        (command::GET_INFO, info_payload(), 0),
-        (command::GET_REGION_INFO, region_info_payload(64, 0), 0),
-        (command::GET_IRQ_INFO, irq_info_payload(2), 0),
-        (command::SET_IRQS, set_irqs_payload(event, MSIX, 0, 9, &[]), 9),
-        (
-            command::SET_IRQS,
-            set_irqs_payload(DATA_NONE | ACTION_TRIGGER, MSIX, 0, 0, &[]),
-            0,
-        ),
-        (
-            command::SET_IRQS,
-            set_irqs_payload(DATA_BOOL | ACTION_UNMASK, INTX, 0, 1, &[1]),
-            0,
-        ),
-        (command::REGION_READ, access_payload(CONFIG, 0, 256), 0),
-        (command::REGION_READ, access_payload(BAR0, 0x1c, 4), 0),
-        (command::REGION_WRITE, write_payload(BAR0, 0x14, &[1, 0, 0x46, 0]), 0),
-        (command::REGION_WRITE, write_payload(2, 0, &[7; 5000]), 0),
-        (
-            command::WRITE_MULTI,
-            write_multi_payload(&[(BAR0, 0x1000, &[1; 4]), (BAR0, 0x1004, &[2; 4])]),
-            0,
-        ),
-        (command::RESET, Vec::new(), 0),
-    ];
-    let mut good = Vec::new();
-    for (id, (command, payload, descriptors)) in messages.into_iter().enumerate() {
-        good.push((message(id as u16, command, 0, &payload), descriptors));
-        good.push((message(id as u16, command, NO_REPLY, &payload), descriptors));
-    }
-    let broken = broken::refused()
-        .into_iter()
-        .map(|broken| (broken.bytes, broken.descriptors))
-        .collect();
-    Seeds { good, broken }
-}
-
-const VALUES: [u64; 14] = [
-    0,
-    1,
-    2,
-    7,
-    15,
-    16,
-    20,
-    255,
-    4095,
-    4096,
-    1 << 20,
-    (1 << 20) + 32,
-    u32::MAX as u64,
-    u64::MAX,
-];
-
-/// Changes a message a little; most stay as they are in their length.
-fn mutate(random: &mut Random, (bytes, descriptors): &mut Sent) {
-    for _ in 0..random.below(3) {
-        let at = random.below(bytes.len());
-        match random.below(8) {
-            0 => bytes[at] ^= 1 << random.below(8),
-            1 => bytes[at] = random.next() as u8,
-            2..=4 => {
-                // a whole field of the payload
-                let width = *random.pick(&[2, 4, 4, 8]);
-                let at = at / width * width;
-                let value = random.pick(&VALUES).to_ne_bytes();
-                bytes
-                    .iter_mut()
-                    .skip(at.max(12))
-                    .take(width)
-                    .zip(value)
-                    .for_each(|(to, from)| *to = from);
-            }
-            5 => {
-                bytes.truncate(at.max(16));
-                set_size(bytes);
-            }
-            6 => {
-                bytes.extend_from_slice(&[0x5a; 24][..random.below(24)]);
-                set_size(bytes);
-            }
-            _ => {
-                let most = if random.chance(5) { 20 } else { 4 };
-                *descriptors = random.below(most);
-            }
-        }
-    }
-}
-
-fn set_size(bytes: &mut [u8]) {
-    let size = bytes.len() as u32;
-    bytes[4..8].copy_from_slice(&size.to_ne_bytes());
-}
-
-/// A message that may come after VERSION; now and then VERSION itself.
-fn one(random: &mut Random, seeds: &Seeds) -> Sent {
-    let after_version = &seeds.good[2..];
-    let of = match random.below(100) {
-        0..=1 => &seeds.good[..2],
-        2..=20 => &seeds.broken[..],
-        _ => after_version,
-    };
-    random.pick(of).clone()
-}
-
-/// A sequence: most begin with VERSION.
-fn sequence(random: &mut Random, seeds: &Seeds) -> Vec<Sent> {
-    let mut sequence: Vec<Sent> = (0..1 + random.below(8)).map(|_| one(random, seeds)).collect();
-    if random.chance(60) {
-        sequence.iter_mut().for_each(|sent| mutate(random, sent));
-    }
-    if random.chance(97) {
-        let mut version = seeds.good[0].clone();
-        if random.chance(10) {
-            mutate(random, &mut version);
-        }
-        sequence.insert(0, version);
-    }
-    sequence
-}
 
 /// Answers a request, nearly always well; checks that it is within the limits first.
 fn answer(
@@ -256,22 +93,19 @@ struct Seen {
 }
 
 /// The protocol alone, fed in pieces. Some requests are answered when more has come, and some never.
-fn without_socket(random: &mut Random, device: &Arc<Device>, shared: &OwnedFd, seeds: &Seeds, seen: &mut Seen) {
+fn without_socket(hostile: &mut Hostile, device: &Arc<Device>, odd: &[OwnedFd], seen: &mut Seen) {
     let mut session = Session::new(Arc::clone(device));
     let mut out = Vec::new();
     let mut late = None;
-    'all: for (bytes, descriptors) in sequence(random, seeds) {
+    'all: for (bytes, descriptors) in hostile.sequence() {
         let mut rest = &bytes[..];
         let mut descriptors = descriptors;
         while !rest.is_empty() {
-            let piece = if random.chance(70) {
-                rest.len()
-            } else {
-                1 + random.below(rest.len())
-            };
+            let piece = hostile.piece(rest.len());
+            let random = &mut hostile.random;
             let fds = if session.has_room() { descriptors } else { 0 };
             descriptors -= fds;
-            let fds = (0..fds).map(|_| shared.try_clone().unwrap()).collect();
+            let fds = (0..fds).map(|_| random.pick(odd).try_clone().unwrap()).collect();
             let fed = session.feed(&rest[..piece], fds);
             if random.chance(80) || fed == Ok(0) {
                 if let Some((request, ticket)) = late.take() {
@@ -303,7 +137,7 @@ fn without_socket(random: &mut Random, device: &Arc<Device>, shared: &OwnedFd, s
     seen.errors += u64::from(session.error().is_some());
     assert_ne!(session.error(), Some(Error::Misanswered));
     while let Some((bytes, _)) = session.unsent() {
-        let count = 1 + random.below(bytes.len());
+        let count = 1 + hostile.random.below(bytes.len());
         out.extend_from_slice(&bytes[..count]);
         session.sent(count);
     }
@@ -311,20 +145,17 @@ fn without_socket(random: &mut Random, device: &Arc<Device>, shared: &OwnedFd, s
 }
 
 /// The same over a pair of sockets. The client sends in pieces, and reads at the end.
-fn over_sockets(random: &mut Random, device: &Arc<Device>, shared: &OwnedFd, seeds: &Seeds, seen: &mut Seen) {
+fn over_sockets(hostile: &mut Hostile, device: &Arc<Device>, odd: &[OwnedFd], seen: &mut Seen) {
     let (mut client, socket) = Client::pair().unwrap();
     client.socket.set_nonblocking(true).unwrap();
     let mut connection = Connection::new(socket, Arc::clone(device)).unwrap();
     let mut over = None;
-    'all: for (bytes, mut descriptors) in sequence(random, seeds) {
+    'all: for (bytes, mut descriptors) in hostile.sequence() {
         let mut rest = &bytes[..];
         while !rest.is_empty() {
-            let piece = if random.chance(70) {
-                rest.len()
-            } else {
-                1 + random.below(rest.len())
-            };
-            let fds = vec![shared.as_fd(); descriptors];
+            let piece = hostile.piece(rest.len());
+            let random = &mut hostile.random;
+            let fds: Vec<_> = (0..descriptors).map(|_| random.pick(odd).as_fd()).collect();
             match client.send_some(&rest[..piece], &fds) {
                 Ok(count) => (rest, descriptors) = (&rest[count..], 0),
                 Err(error) => assert_eq!(error.kind(), std::io::ErrorKind::WouldBlock),
@@ -337,8 +168,8 @@ fn over_sockets(random: &mut Random, device: &Arc<Device>, shared: &OwnedFd, see
             }
         }
     }
-    if over.is_none() && random.chance(80) {
-        let _ = serve_once(random, &mut connection, device, seen);
+    if over.is_none() && hostile.random.chance(80) {
+        let _ = serve_once(&mut hostile.random, &mut connection, device, seen);
     }
     seen.errors += u64::from(connection.session().error().is_some());
     drop(connection);
@@ -366,26 +197,25 @@ fn open_descriptors() -> usize {
 
 #[test]
 fn mutated_sequences() {
-    let seeds = seeds();
     let device = vfio_user::device();
-    let shared = OwnedFd::from(Memory::new(4096).unwrap().file);
-    let mut random = Random(0x9e37_79b9_7f4a_7c15);
+    let odd = odd_descriptors().unwrap();
+    let mut hostile = Hostile::new(0x9e37_79b9_7f4a_7c15);
     let (mut alone, mut sockets) = (Seen::default(), Seen::default());
     let before = open_descriptors();
     let begin = Instant::now();
     for _ in 0..ROUNDS {
-        without_socket(&mut random, &device, &shared, &seeds, &mut alone);
+        without_socket(&mut hostile, &device, &odd, &mut alone);
     }
     assert_eq!(open_descriptors(), before);
     let between = begin.elapsed();
     for _ in 0..SOCKET_ROUNDS {
-        over_sockets(&mut random, &device, &shared, &seeds, &mut sockets);
+        over_sockets(&mut hostile, &device, &odd, &mut sockets);
     }
     assert_eq!(open_descriptors(), before);
     println!(
         "{alone:?} in {between:?}, {sockets:?} in {:?}",
         begin.elapsed() - between
     );
-    assert!(DESCRIPTORS_MAX == 16 && alone.requests > ROUNDS / 2 && sockets.requests > SOCKET_ROUNDS / 2);
+    assert!(alone.requests > ROUNDS / 2 && sockets.requests > SOCKET_ROUNDS / 2);
     assert!(alone.errors < ROUNDS * 9 / 10 && alone.errors > ROUNDS / 20 && alone.replies > ROUNDS);
 }

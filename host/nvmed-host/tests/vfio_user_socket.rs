@@ -62,25 +62,8 @@ fn as_qemu() {
         (found.regions[1].bytes, found.regions[6].bytes, found.config.len()),
         (0, 256, 256)
     );
-    // the firmware and Linux: memory is mapped anew, ROM has no file, the controller is set up
-    client.unmap(0, split).unwrap();
-    let parts = [(0, 0xc0000), (0xc0000, 0x20000), (0xe0000, split - 0xe0000)];
-    let parts = parts.map(|(address, bytes)| Range {
-        address,
-        offset: address,
-        bytes,
-    });
-    client.map_pipelined(&parts, memory.file.as_fd()).unwrap();
-    client
-        .map(
-            Range {
-                address: 0xfffc_0000,
-                offset: 0,
-                bytes: 0x40000,
-            },
-            None,
-        )
-        .unwrap();
+    // the firmware maps memory anew; then Linux sets the controller up
+    client.remap_as_firmware(&memory, low).unwrap();
     client.write(CONFIG, 4, &[6, 4]).unwrap();
     client.post_u32(BAR0, 0x14, 0x0046_0001).unwrap();
     assert_eq!(client.read_u32(BAR0, 0x14).unwrap(), 0x0046_0001);
@@ -118,10 +101,19 @@ fn as_qemu() {
     let (error, state) = server.join().unwrap();
     assert_eq!((error, state.resets, state.refused), (Error::Closed, 2, 0));
     let file = Some(identity(&memory.file));
-    let maps: Vec<_> = state.maps.into_iter().collect();
-    let expected = parts.map(|range| (range.address, (range.bytes, range.offset, file)));
-    assert_eq!(maps[..3], expected);
-    assert_eq!(maps[3..], [(0xfffc_0000, (0x40000, 0, None))]);
+    let ram = |address, bytes| (address, (bytes, address, file));
+    let expected = [
+        ram(0, 0xa0000),
+        ram(0xc0000, 0xa000),
+        ram(0xca000, 0x3000),
+        ram(0xcd000, 0x1b000),
+        ram(0xe8000, 0x8000),
+        ram(0xf0000, 0x10000),
+        ram(0x10_0000, split - 0x10_0000),
+        (0xfd00_0000, (0x100_0000, 0, None)),
+        (0xfffc_0000, (0x40000, 0, None)),
+    ];
+    assert_eq!(state.maps.into_iter().collect::<Vec<_>>(), expected);
     assert_eq!(state.irqs.into_keys().collect::<Vec<_>>(), [(INTX, 0)]);
     assert_eq!(state.actions, [(IrqAction::Unmask, INTX, 0)]);
 }
@@ -424,6 +416,21 @@ fn a_late_answer() {
     client.receive_for(read, command::REGION_READ).unwrap();
 }
 
+/// Hostile clients, one after the other, each with a server in a thread of its own: each is served or left, and the next is.
+#[test]
+fn hostile_clients() {
+    let odd = hostile::odd_descriptors().unwrap();
+    let mut hostile = hostile::Hostile::new(7);
+    let device = device();
+    for _ in 0..200 {
+        let (client, socket) = Client::pair().unwrap();
+        let server = start(socket, device.clone());
+        hostile.play(&client, &odd).unwrap();
+        drop(client);
+        assert_ne!(server.join().unwrap().0, Error::Misanswered);
+    }
+}
+
 /// The next client begins anew.
 #[test]
 fn by_a_path() {
@@ -448,7 +455,7 @@ fn by_a_path() {
             .unwrap();
         drop(client);
         let (error, state) = server.join().unwrap();
-        assert_eq!((error, state.maps.len()), (Error::Closed, 1), "round {round}");
+        assert_eq!((error, state.maps.len()), (Error::Closed, 3), "round {round}");
     }
     std::fs::remove_dir_all(&folder).unwrap();
 }

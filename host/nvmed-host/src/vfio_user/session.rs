@@ -118,14 +118,6 @@ impl Session {
         }
     }
 
-    /// The number of the descriptor by which region 0 is mapped.
-    #[cfg(test)]
-    pub(super) fn device_page(&self) -> std::os::fd::RawFd {
-        use std::os::fd::AsRawFd;
-        let mapping = self.device.regions().first().and_then(|region| region.mapping.as_ref());
-        mapping.map_or(-1, |mapping| mapping.file.as_raw_fd())
-    }
-
     /// Why the connection is over, if it is.
     pub fn error(&self) -> Option<Error> {
         self.over

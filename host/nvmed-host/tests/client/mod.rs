@@ -4,6 +4,7 @@
 #![allow(dead_code)]
 
 pub mod broken;
+pub mod hostile;
 
 use std::fs::File;
 use std::io::{self, IoSlice, IoSliceMut};
@@ -222,6 +223,30 @@ pub struct Range {
     pub address: u64,
     pub offset: u64,
     pub bytes: u64,
+}
+
+/// A change of what is mapped.
+#[derive(Clone, Copy, Debug)]
+pub enum Remap<'a> {
+    /// A range is mapped.
+    Map {
+        flags: u32,
+        range: Range,
+        file: Option<BorrowedFd<'a>>,
+    },
+    /// A range is unmapped.
+    Unmap { address: u64, bytes: u64 },
+}
+
+impl<'a> Remap<'a> {
+    /// Memory of a file, readable and writable.
+    pub fn ram(range: Range, file: BorrowedFd<'a>) -> Remap<'a> {
+        Remap::Map {
+            flags: MAP_READ | MAP_WRITE,
+            range,
+            file: Some(file),
+        }
+    }
 }
 
 /// A reply.
@@ -451,15 +476,94 @@ impl Client {
         self.ask_empty(command::DMA_MAP, &payload, file.as_slice())
     }
 
-    /// Maps several ranges of a file without waiting in between, as QEMU does after its start.
-    pub fn map_pipelined(&mut self, ranges: &[Range], file: BorrowedFd<'_>) -> io::Result<()> {
+    /// Maps and unmaps without waiting in between, as QEMU does; then waits for all replies.
+    pub fn remap(&mut self, steps: &[Remap<'_>]) -> io::Result<()> {
         let mut ids = Vec::new();
-        for range in ranges {
-            let payload = map_payload(MAP_READ | MAP_WRITE, range.offset, range.address, range.bytes);
-            ids.push(self.send(command::DMA_MAP, 0, &payload, &[file])?);
+        for step in steps {
+            let (command, payload, file) = match step {
+                Remap::Map { flags, range, file } => (
+                    command::DMA_MAP,
+                    map_payload(*flags, range.offset, range.address, range.bytes),
+                    *file,
+                ),
+                Remap::Unmap { address, bytes } => (command::DMA_UNMAP, unmap_payload(0, *address, *bytes), None),
+            };
+            ids.push((self.send(command, 0, &payload, file.as_slice())?, command));
         }
         ids.into_iter()
-            .try_for_each(|id| self.receive_for(id, command::DMA_MAP).map(|_| ()))
+            .try_for_each(|(id, command)| self.receive_for(id, command).map(|_| ()))
+    }
+
+    /// Maps several ranges of a file, readable and writable, without waiting in between.
+    pub fn map_pipelined(&mut self, ranges: &[Range], file: BorrowedFd<'_>) -> io::Result<()> {
+        let steps: Vec<_> = ranges.iter().map(|range| Remap::ram(*range, file)).collect();
+        self.remap(&steps)
+    }
+
+    /// What QEMU sends while SeaBIOS runs and leaves behind (PAM): memory below 1 MiB in pieces, some of them read-only, ROM and the VGA's memory without a file.
+    /// `low` is the range from 0 on, of at least 2 MiB, as [`Client::start_as_qemu`] has mapped it with its hole at a0000h.
+    pub fn remap_as_firmware(&mut self, memory: &Memory, low: Range) -> io::Result<()> {
+        let file = memory.file.as_fd();
+        let part = |from: u64, to: u64| Range {
+            address: from,
+            offset: low.offset + from,
+            bytes: to - from,
+        };
+        let read_only = |from, to| Remap::Map {
+            flags: MAP_READ,
+            range: part(from, to),
+            file: Some(file),
+        };
+        let rom = |from: u64, to: u64| {
+            let range = Range {
+                address: from,
+                offset: 0,
+                bytes: to - from,
+            };
+            Remap::Map {
+                flags: MAP_READ,
+                range,
+                file: None,
+            }
+        };
+        let ram = |from, to| Remap::ram(part(from, to), file);
+        let gone = |from: u64, to: u64| Remap::Unmap {
+            address: from,
+            bytes: to - from,
+        };
+        let vga = Range {
+            address: 0xfd00_0000,
+            offset: 0,
+            bytes: 0x100_0000,
+        };
+        self.remap(&[
+            gone(0xc0000, low.bytes),
+            rom(0xc0000, 0xe0000),
+            rom(0xe0000, 0x10_0000),
+            ram(0x10_0000, low.bytes),
+        ])?;
+        self.remap(&[
+            gone(0xc0000, 0xe0000),
+            gone(0xe0000, 0x10_0000),
+            gone(0x10_0000, low.bytes),
+            ram(0xc0000, low.bytes),
+        ])?;
+        self.remap(&[Remap::Map {
+            flags: MAP_READ | MAP_WRITE,
+            range: vga,
+            file: None,
+        }])?;
+        self.remap(&[gone(0, 0xa0000), gone(0xc0000, low.bytes), ram(0, low.bytes)])?;
+        self.remap(&[gone(0, low.bytes), ram(0, 0xa0000), ram(0xc0000, low.bytes)])?;
+        self.remap(&[
+            gone(0xc0000, low.bytes),
+            read_only(0xc0000, 0xca000),
+            ram(0xca000, 0xcd000),
+            read_only(0xcd000, 0xe8000),
+            ram(0xe8000, 0xf0000),
+            read_only(0xf0000, 0x10_0000),
+            ram(0x10_0000, low.bytes),
+        ])
     }
 
     pub fn unmap(&mut self, address: u64, bytes: u64) -> io::Result<()> {
@@ -600,12 +704,41 @@ impl Client {
         self.ask_empty(command::RESET, &[], &[])
     }
 
-    /// All that QEMU 11.1.3 sends until the guest's firmware runs: version, memory one range at a time, what the device is, its configuration space, a reset.
+    /// All that QEMU 11.1.3 sends until the guest's firmware runs: version, memory, what the device is, its configuration space, a reset. Of a range from 0 on the
+    /// VGA's window at a0000h is left out, as QEMU does it.
     pub fn start_as_qemu(&mut self, memory: &Memory, ranges: &[Range]) -> io::Result<Found> {
         let capabilities = self.version()?;
+        let mut parts = Vec::new();
         for range in ranges {
-            self.map(*range, Some(memory.file.as_fd()))?;
+            if range.address == 0 && range.bytes > 0xc0000 {
+                parts.push(Range {
+                    bytes: 0xa0000,
+                    ..*range
+                });
+                parts.push(Range {
+                    address: 0xc0000,
+                    offset: range.offset + 0xc0000,
+                    bytes: range.bytes - 0xc0000,
+                });
+            } else {
+                parts.push(*range);
+            }
         }
+        let firmware = Range {
+            address: 0xfffc_0000,
+            offset: 0,
+            bytes: 0x40000,
+        };
+        let mut steps: Vec<_> = parts
+            .iter()
+            .map(|range| Remap::ram(*range, memory.file.as_fd()))
+            .collect();
+        steps.push(Remap::Map {
+            flags: MAP_READ,
+            range: firmware,
+            file: None,
+        });
+        self.remap(&steps)?;
         let (flags, regions, irqs) = self.device_info()?;
         if flags != 3 || regions < 9 || irqs < 3 {
             return wrong(format!(
@@ -620,7 +753,11 @@ impl Client {
         // QEMU looks at the interrupt of errors, and goes on where there is none.
         let _ = self.irq_info(3);
         let config = self.read(CONFIG, 0, 256)?;
+        for (offset, count) in [(0x30, 4), (0x10, 4), (0x18, 4)] {
+            self.read(CONFIG, offset, count)?;
+        }
         let msix = self.irq_info(MSIX)?;
+        self.read(CONFIG, 0x3d, 1)?;
         self.reset()?;
         Ok(Found {
             capabilities,

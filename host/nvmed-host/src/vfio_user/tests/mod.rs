@@ -28,7 +28,7 @@ fn identity(fd: &OwnedFd) -> u64 {
 }
 
 /// A device as an NVMe controller's: BAR0 with a page that can be mapped, configuration space, MSI-X, a pin.
-pub(super) fn device() -> Arc<Device> {
+fn device() -> Arc<Device> {
     let page = Mapping {
         file: Arc::new(file()),
         offset: 0,
@@ -91,7 +91,11 @@ fn replies(session: &mut Session) -> Vec<(u16, u16, u32, Vec<u8>)> {
 
 /// A session after VERSION.
 fn begun() -> Session {
-    let mut session = Session::new(device());
+    begun_with(device())
+}
+
+fn begun_with(device: Arc<Device>) -> Session {
+    let mut session = Session::new(device);
     let version = message(1, command::VERSION, 0, &qemu_version_payload());
     assert_eq!(session.feed(&version, vec![]), Ok(version.len()));
     assert!(session.next_request().unwrap().is_none());

@@ -340,7 +340,9 @@ fn interrupts() {
 
 #[test]
 fn questions() {
-    let mut session = begun();
+    let device = device();
+    let page = device.regions()[0].mapping.as_ref().unwrap().file.as_raw_fd();
+    let mut session = begun_with(device);
     let of = |values: &[u32]| values.iter().flat_map(|value| value.to_ne_bytes()).collect::<Vec<u8>>();
     assert_eq!(
         answered(&mut session, command::GET_INFO, &info_payload(), vec![]),
@@ -370,7 +372,6 @@ fn questions() {
         vec![],
     );
     assert!(session.next_request().unwrap().is_none());
-    let page = session.device_page();
     let (_, descriptor) = session.unsent().unwrap();
     assert_eq!(descriptor.unwrap().as_raw_fd(), page);
     session.sent(1);
