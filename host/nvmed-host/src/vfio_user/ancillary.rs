@@ -65,7 +65,7 @@ unsafe fn take_descriptors(header: &libc::msghdr) -> Vec<OwnedFd> {
         if about.cmsg_level == libc::SOL_SOCKET && about.cmsg_type == libc::SCM_RIGHTS {
             // SAFETY: it only computes a length.
             let head = unsafe { libc::CMSG_LEN(0) } as usize;
-            let count = (about.cmsg_len as usize).saturating_sub(head) / size_of::<RawFd>();
+            let count = about.cmsg_len.saturating_sub(head) / size_of::<RawFd>();
             for index in 0..count {
                 // SAFETY: the kernel has put `count` descriptors after the header; they may be unaligned.
                 let raw = unsafe { data.cast::<RawFd>().add(index).read_unaligned() };

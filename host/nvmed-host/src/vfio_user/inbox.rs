@@ -12,7 +12,7 @@ use std::time::Instant;
 use super::wire::{FramingError, Header, DESCRIPTORS_MAX, HEADER_BYTES};
 
 /// Bytes that are kept of messages that were not taken, but for a longer message.
-const KEPT_BYTES: usize = 64 << 10;
+const KEPT_BYTES: usize = 16 << 10;
 
 /// Bytes and descriptors that came. At most 32 descriptors, and the bytes of one message or of [`KEPT_BYTES`].
 #[derive(Debug, Default)]

@@ -43,3 +43,9 @@ pub use request::{
 };
 pub use session::{Error, Session, STALL};
 pub use version::{Agreed, VersionError};
+
+#[cfg(test)]
+#[path = "../../tests/client/mod.rs"]
+pub(crate) mod client;
+#[cfg(test)]
+mod tests;

@@ -177,8 +177,8 @@ impl Session {
     pub fn feed(&mut self, bytes: &[u8], descriptors: Vec<OwnedFd>) -> Result<usize, Error> {
         let room = self.room();
         let count = bytes.len().min(room.len());
-        for (to, from) in room.iter_mut().zip(bytes) {
-            *to = *from;
+        if let (Some(to), Some(from)) = (room.get_mut(..count), bytes.get(..count)) {
+            to.copy_from_slice(from);
         }
         self.fed(count, descriptors, false)?;
         Ok(count)

@@ -143,17 +143,14 @@ pub struct Header {
 impl Header {
     /// Takes a header apart and checks what the stream needs: the kind of the message and its length.
     pub fn decode(bytes: &[u8; HEADER_BYTES]) -> Result<Header, FramingError> {
-        let mut fields = Fields::new(bytes);
-        let header = (|| {
-            Some(Header {
-                id: fields.u16()?,
-                command: fields.u16()?,
-                bytes: fields.u32()?,
-                flags: fields.u32()?,
-                error: fields.u32()?,
-            })
-        })()
-        .ok_or(FramingError::Size(0))?;
+        let [i0, i1, c0, c1, s0, s1, s2, s3, f0, f1, f2, f3, e0, e1, e2, e3] = *bytes;
+        let header = Header {
+            id: u16::from_ne_bytes([i0, i1]),
+            command: u16::from_ne_bytes([c0, c1]),
+            bytes: u32::from_ne_bytes([s0, s1, s2, s3]),
+            flags: u32::from_ne_bytes([f0, f1, f2, f3]),
+            error: u32::from_ne_bytes([e0, e1, e2, e3]),
+        };
         if header.flags & header_flags::TYPE != 0 {
             return Err(FramingError::NoCommand(header.flags));
         }
@@ -165,18 +162,12 @@ impl Header {
 
     /// The header's bytes.
     pub fn encode(&self) -> [u8; HEADER_BYTES] {
-        let mut bytes = [0; HEADER_BYTES];
-        let parts: [&[u8]; 5] = [
-            &self.id.to_ne_bytes(),
-            &self.command.to_ne_bytes(),
-            &self.bytes.to_ne_bytes(),
-            &self.flags.to_ne_bytes(),
-            &self.error.to_ne_bytes(),
-        ];
-        for (to, from) in bytes.iter_mut().zip(parts.into_iter().flatten()) {
-            *to = *from;
-        }
-        bytes
+        let [i0, i1] = self.id.to_ne_bytes();
+        let [c0, c1] = self.command.to_ne_bytes();
+        let [s0, s1, s2, s3] = self.bytes.to_ne_bytes();
+        let [f0, f1, f2, f3] = self.flags.to_ne_bytes();
+        let [e0, e1, e2, e3] = self.error.to_ne_bytes();
+        [i0, i1, c0, c1, s0, s1, s2, s3, f0, f1, f2, f3, e0, e1, e2, e3]
     }
 }
 
