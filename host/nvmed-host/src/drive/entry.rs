@@ -57,6 +57,8 @@ impl Status {
     pub const INVALID_FIELD: Status = Status(Self::DO_NOT_RETRY | 0x02);
     /// Data Transfer Error: an address that is nowhere.
     pub const TRANSFER_ERROR: Status = Status(Self::DO_NOT_RETRY | 0x04);
+    /// Internal Error.
+    pub const INTERNAL_ERROR: Status = Status(0x06);
     /// Invalid Namespace or Format.
     pub const INVALID_NAMESPACE: Status = Status(Self::DO_NOT_RETRY | 0x0b);
     /// PRP Offset Invalid.
@@ -170,6 +172,11 @@ impl Submission {
     /// Force Unit Access, of commands that name blocks in a row: bit 30 of dword 12.
     pub fn is_forced(&self) -> bool {
         u32::from_le_bytes(self.bytes::<48, 4>()) & 1 << 30 != 0
+    }
+
+    /// Deallocate, of Write Zeroes: bit 25 of dword 12.
+    pub fn wants_deallocation(&self) -> bool {
+        u32::from_le_bytes(self.bytes::<48, 4>()) & 1 << 25 != 0
     }
 
     /// How many ranges Dataset Management has: 1 to 256 (NR + 1).

@@ -201,7 +201,7 @@ impl<M: SharedMemory + ?Sized> Carrier<'_, M> {
             .min((from.saturating_add(bytes)) & !(PAGE_BYTES - 1))
             .max(from);
         let zeroed = if from < to {
-            self.store.zero(from, to - from)
+            self.store.zero(from, to - from, clearing.gives_back)
         } else {
             Ok(())
         };

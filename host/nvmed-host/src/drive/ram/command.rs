@@ -35,6 +35,13 @@ pub struct Transfer {
     pub forced: bool,
 }
 
+impl Transfer {
+    /// Whether it changes blocks.
+    pub fn changes(&self) -> bool {
+        self.kind == Kind::Write
+    }
+}
+
 /// Bytes of the drive in a row.
 #[derive(Clone, Copy, Debug, PartialEq, Eq)]
 pub struct Extent {
@@ -51,6 +58,8 @@ pub struct Clearing {
     pub left: Vec<Extent>,
     /// Whether the zeros are durable before the completion is there (Force Unit Access).
     pub forced: bool,
+    /// Whether the blocks' room is given back: the command deallocates.
+    pub gives_back: bool,
 }
 
 /// What is to be done.
@@ -87,11 +96,30 @@ impl Step {
                 Ok(Some(Step::Clear(Clearing {
                     left: vec![extent],
                     forced: entry.is_forced(),
+                    gives_back: entry.wants_deallocation(),
                 })))
             }
             opcode::DATASET_MANAGEMENT => manage(entry, memory, blocks),
             opcode::FLUSH => Ok(Some(Step::Sync)),
             _ => Err(Status::INVALID_OPCODE),
+        }
+    }
+
+    /// Whether it is Force Unit Access.
+    pub fn is_forced(&self) -> bool {
+        match self {
+            Step::Transfer(transfer) => transfer.forced,
+            Step::Clear(clearing) => clearing.forced,
+            Step::Sync => false,
+        }
+    }
+
+    /// Whether it changes blocks.
+    pub fn changes(&self) -> bool {
+        match self {
+            Step::Transfer(transfer) => transfer.changes(),
+            Step::Clear(_) => true,
+            Step::Sync => false,
         }
     }
 }
@@ -157,7 +185,11 @@ fn manage<M: SharedMemory + ?Sized>(entry: &Submission, memory: &M, blocks: u64)
         extents.push(extent(number(8, 16), number(4, 8), blocks)?);
     }
     let left = merged(extents);
-    Ok((!left.is_empty()).then_some(Step::Clear(Clearing { left, forced: false })))
+    Ok((!left.is_empty()).then_some(Step::Clear(Clearing {
+        left,
+        forced: false,
+        gives_back: true,
+    })))
 }
 
 fn copied(slice: &VolatileSlice<'_>) -> Vec<u8> {

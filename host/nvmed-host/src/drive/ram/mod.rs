@@ -144,7 +144,7 @@ impl<M: SharedMemory + 'static> RamDrive<M> {
         };
         let task = Task { lane, command, step };
         if may_wait && self.store.waits() {
-            self.threads.give(task);
+            self.give(turn, task)?;
         } else if at_once {
             self.go_on(turn, task)?;
         } else {
@@ -163,11 +163,26 @@ impl<M: SharedMemory + 'static> RamDrive<M> {
         let (outcome, used) = carrier.advance(&mut task.step, PIECE.min(turn.bytes), Wait::Never);
         turn.bytes = turn.bytes.saturating_sub(used);
         match outcome {
-            Outcome::Done(status) => self.post(turn, task.lane, task.command, status)?,
+            Outcome::Done(mut status) => {
+                if status.is_good() && task.step.is_forced() {
+                    let synced = carrier.sync();
+                    status = if task.step.changes() { synced } else { status };
+                }
+                self.post(turn, task.lane, task.command, status)?;
+            }
             Outcome::More => self.jobs.push_back(task),
-            Outcome::WouldWait => self.threads.give(task),
+            Outcome::WouldWait => self.give(turn, task)?,
         }
         Ok(())
+    }
+
+    /// Gives a command to the threads.
+    fn give(&mut self, turn: &mut Turn, task: Task) -> Result<(), DriveError> {
+        let (lane, command) = (task.lane, task.command);
+        if self.threads.give(task) {
+            return Ok(());
+        }
+        self.post(turn, lane, command, Status::INTERNAL_ERROR)
     }
 }
 
@@ -219,7 +234,7 @@ impl<M: SharedMemory + 'static> Drive for RamDrive<M> {
             bytes: budget.bytes,
             completed: 0,
         };
-        for finished in self.threads.collect() {
+        while let Some(finished) = self.threads.collect() {
             self.post(&mut turn, finished.lane, finished.command, finished.status)?;
         }
         while turn.commands > 0 && turn.bytes > if self.jobs.is_empty() { 0 } else { budget.bytes / 2 } {

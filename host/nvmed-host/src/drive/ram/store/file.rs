@@ -31,8 +31,9 @@ pub struct FileStore {
     /// Whether the file system takes reads and writes that may not wait.
     reads_at_once: AtomicBool,
     writes_at_once: AtomicBool,
-    /// Whether it can punch holes.
+    /// Whether it can punch holes, and make bytes zero that keep their room.
     has_holes: AtomicBool,
+    has_zeros: AtomicBool,
 }
 
 impl FileStore {
@@ -94,6 +95,7 @@ impl FileStore {
             reads_at_once: AtomicBool::new(true),
             writes_at_once: AtomicBool::new(true),
             has_holes: AtomicBool::new(true),
+            has_zeros: AtomicBool::new(true),
         })
     }
 
@@ -145,6 +147,31 @@ impl FileStore {
             Err(error) if error.kind() == io::ErrorKind::UnexpectedEof => Err(io::ErrorKind::WouldBlock.into()),
             moved => moved,
         }
+    }
+
+    /// Calls `fallocate` in this way, unless the file system was found not to have it. Returns whether it was done.
+    fn allocate(&self, able: &AtomicBool, way: FallocateFlags, offset: u64, bytes: u64) -> io::Result<bool> {
+        let (from, length) = (
+            i64::try_from(offset).map_err(io::Error::other)?,
+            i64::try_from(bytes).map_err(io::Error::other)?,
+        );
+        while able.load(Ordering::Relaxed) {
+            match fallocate(self.fd(), way | FallocateFlags::FALLOC_FL_KEEP_SIZE, from, length) {
+                Ok(()) => return Ok(true),
+                Err(nix::Error::EINTR) => {}
+                Err(nix::Error::EOPNOTSUPP) => able.store(false, Ordering::Relaxed),
+                Err(error) => return Err(error.into()),
+            }
+        }
+        Ok(false)
+    }
+
+    /// The first byte from `offset` on that has no room; `offset` where that cannot be known.
+    fn next_hole(&self, offset: u64) -> u64 {
+        let at = i64::try_from(offset)
+            .ok()
+            .and_then(|from| lseek(self.fd(), from, Whence::SeekHole).ok());
+        at.and_then(|at| u64::try_from(at).ok()).unwrap_or(offset)
     }
 
     fn write_zeros(&self, offset: u64, bytes: u64) -> io::Result<()> {
@@ -208,14 +235,18 @@ fn open_or_create(path: &Path) -> Result<(File, bool), DriveError> {
     let refused =
         |error: io::Error| DriveError::Unusable(format!("{}: cannot be opened or created: {error}", path.display()));
     let open = |new: bool| {
-        let mut options = OpenOptions::new();
-        options
-            .read(true)
-            .write(true)
-            .create_new(new)
-            .mode(0o600)
-            .custom_flags(libc::O_NONBLOCK | libc::O_NOCTTY);
-        options.open(path)
+        let open = |flags| {
+            let mut options = OpenOptions::new();
+            options.read(true).write(true).create_new(new).mode(0o600);
+            options
+                .custom_flags(libc::O_NONBLOCK | libc::O_NOCTTY | flags)
+                .open(path)
+        };
+        // A Read that notes its time in the file may wait for the file system's log. A file of another owner can't be opened without that.
+        match open(libc::O_NOATIME) {
+            Err(error) if error.raw_os_error() == Some(libc::EPERM) => open(0),
+            opened => opened,
+        }
     };
     match open(false) {
         Ok(file) => Ok((file, false)),
@@ -284,26 +315,18 @@ impl Store for FileStore {
         }
     }
 
-    fn zero(&self, offset: u64, bytes: u64) -> io::Result<()> {
-        if !self.has_holes.load(Ordering::Relaxed) {
-            return self.write_zeros(offset, bytes);
-        }
-        let hole = FallocateFlags::FALLOC_FL_PUNCH_HOLE | FallocateFlags::FALLOC_FL_KEEP_SIZE;
-        let (from, length) = (
-            i64::try_from(offset).map_err(io::Error::other)?,
-            i64::try_from(bytes).map_err(io::Error::other)?,
-        );
-        loop {
-            match fallocate(self.fd(), hole, from, length) {
-                Ok(()) => return Ok(()),
-                Err(nix::Error::EINTR) => {}
-                Err(nix::Error::EOPNOTSUPP) => {
-                    self.has_holes.store(false, Ordering::Relaxed);
-                    return self.write_zeros(offset, bytes);
-                }
-                Err(error) => return Err(error.into()),
+    fn zero(&self, offset: u64, bytes: u64, gives_back: bool) -> io::Result<()> {
+        // Bytes that all have room are made zero in place where that will do: it is quicker, and writes go on meanwhile.
+        if !gives_back && self.next_hole(offset) >= offset + bytes {
+            let way = FallocateFlags::FALLOC_FL_ZERO_RANGE;
+            if self.allocate(&self.has_zeros, way, offset, bytes)? {
+                return Ok(());
             }
         }
+        if self.allocate(&self.has_holes, FallocateFlags::FALLOC_FL_PUNCH_HOLE, offset, bytes)? {
+            return Ok(());
+        }
+        self.write_zeros(offset, bytes)
     }
 
     fn next_data(&self, offset: u64, end: u64) -> u64 {

@@ -2,25 +2,27 @@
 //! Bytes in this process's memory, which end with it. Pages have memory once they are written, and lose it when they are made zero.
 
 use std::io;
-use std::sync::atomic::{AtomicU64, Ordering};
+use std::sync::atomic::{AtomicU16, Ordering};
 
 use vm_memory::mmap::MmapRegion;
 use vm_memory::{VolatileMemory, VolatileSlice};
 
 use super::{Store, Wait};
 
-/// Bytes of a chunk, for which one bit says whether it was ever written.
+/// Bytes of a chunk, of which a begin is known to have no memory.
 const CHUNK: u64 = 1 << 21;
 /// Bytes of a page.
 const PAGE: u64 = 4096;
+/// Chunks that one search for data looks at, at most: some hundred microseconds.
+const MOST_LOOKED_AT: u64 = 1 << 16;
 /// Zeros, for places whose bytes were never written.
 static ZEROS: [u8; PAGE as usize] = [0; PAGE as usize];
 
 /// A store in memory.
 pub struct MemoryStore {
     region: MmapRegion,
-    /// A bit for each chunk that may have bytes other than zero.
-    written: Vec<AtomicU64>,
+    /// For each chunk how many of its last pages may have memory: those before them have none, and are zero.
+    used: Vec<AtomicU16>,
 }
 
 impl MemoryStore {
@@ -32,9 +34,8 @@ impl MemoryStore {
     pub fn new(bytes: u64) -> io::Result<MemoryStore> {
         let length = usize::try_from(bytes).map_err(io::Error::other)?;
         let region = MmapRegion::new(length).map_err(io::Error::other)?;
-        let words = bytes.div_ceil(CHUNK).div_ceil(64);
-        let written = (0..words).map(|_| AtomicU64::new(0)).collect();
-        Ok(MemoryStore { region, written })
+        let used = (0..bytes.div_ceil(CHUNK)).map(|_| AtomicU16::new(0)).collect();
+        Ok(MemoryStore { region, used })
     }
 
     fn slice(&self, offset: u64, bytes: usize) -> io::Result<VolatileSlice<'_>> {
@@ -42,14 +43,20 @@ impl MemoryStore {
         self.region.get_slice(offset, bytes).map_err(io::Error::other)
     }
 
-    fn bit(&self, offset: u64) -> Option<(&AtomicU64, u64)> {
-        let chunk = offset / CHUNK;
-        Some((self.written.get((chunk / 64) as usize)?, 1 << (chunk % 64)))
+    /// The first byte of the chunk of `offset` that may have memory; the chunk's end where there is none.
+    fn begin_of_used(&self, offset: u64) -> u64 {
+        let used = self
+            .used
+            .get((offset / CHUNK) as usize)
+            .map_or(0, |used| used.load(Ordering::Relaxed));
+        end_of_chunk(offset) - u64::from(used) * PAGE
     }
 
-    fn is_written(&self, offset: u64) -> bool {
-        self.bit(offset)
-            .is_some_and(|(word, bit)| word.load(Ordering::Relaxed) & bit != 0)
+    /// The chunk of `offset` may have memory from there on.
+    fn use_from(&self, offset: u64) {
+        if let Some(used) = self.used.get((offset / CHUNK) as usize) {
+            used.fetch_max((end_of_chunk(offset) - offset).div_ceil(PAGE) as u16, Ordering::Relaxed);
+        }
     }
 
     /// Calls `each` with the parts of `places`, cut where chunks end, and the offset of each.
@@ -72,7 +79,7 @@ impl MemoryStore {
         Ok(())
     }
 
-    /// Makes bytes of one written chunk zero: whole pages lose their memory.
+    /// Makes bytes of one chunk zero: whole pages lose their memory.
     fn zero_part(&self, offset: u64, bytes: u64) -> io::Result<()> {
         let end = offset + bytes;
         let first_page = offset.next_multiple_of(PAGE).min(end);
@@ -84,14 +91,19 @@ impl MemoryStore {
         }
         if first_page < last_page {
             drop_pages(&self.slice(first_page, (last_page - first_page) as usize)?)?;
-        }
-        if bytes == CHUNK {
-            if let Some((word, bit)) = self.bit(offset) {
-                word.fetch_and(!bit, Ordering::Relaxed);
+            if (first_page..last_page).contains(&self.begin_of_used(offset)) {
+                if let Some(used) = self.used.get((offset / CHUNK) as usize) {
+                    used.store(((end_of_chunk(offset) - last_page) / PAGE) as u16, Ordering::Relaxed);
+                }
             }
         }
         Ok(())
     }
+}
+
+/// The first byte after the chunk of `offset`.
+fn end_of_chunk(offset: u64) -> u64 {
+    offset - offset % CHUNK + CHUNK
 }
 
 /// Takes the memory of whole pages away: they read as zeros.
@@ -114,10 +126,10 @@ impl Store for MemoryStore {
 
     fn read(&self, offset: u64, places: &[VolatileSlice<'_>], _: Wait) -> io::Result<()> {
         Self::by_chunk(offset, places, |at, part| {
-            if self.is_written(at) {
-                self.slice(at, part.len())?.copy_to_volatile_slice(part);
-            } else {
+            if at + part.len() as u64 <= self.begin_of_used(at) {
                 clear(&part);
+            } else {
+                self.slice(at, part.len())?.copy_to_volatile_slice(part);
             }
             Ok(())
         })
@@ -125,15 +137,13 @@ impl Store for MemoryStore {
 
     fn write(&self, offset: u64, places: &[VolatileSlice<'_>], _: Wait) -> io::Result<()> {
         Self::by_chunk(offset, places, |at, part| {
-            if let Some((word, bit)) = self.bit(at) {
-                word.fetch_or(bit, Ordering::Relaxed);
-            }
+            self.use_from(at);
             part.copy_to_volatile_slice(self.slice(at, part.len())?);
             Ok(())
         })
     }
 
-    fn zero(&self, offset: u64, bytes: u64) -> io::Result<()> {
+    fn zero(&self, offset: u64, bytes: u64, _: bool) -> io::Result<()> {
         let end = offset + bytes;
         let mut at = self.next_data(offset, end);
         while at < end {
@@ -146,12 +156,11 @@ impl Store for MemoryStore {
 
     fn next_data(&self, offset: u64, end: u64) -> u64 {
         let mut at = offset;
-        while at < end && !self.is_written(at) {
-            let chunk = at / CHUNK;
-            let word = self.bit(at).map_or(0, |(word, _)| word.load(Ordering::Relaxed));
-            let rest = word.checked_shr((chunk % 64) as u32).unwrap_or(0);
-            let skipped = u64::from(rest.trailing_zeros()).min(64 - chunk % 64).max(1);
-            at = (chunk + skipped) * CHUNK;
+        for _ in 0..MOST_LOOKED_AT {
+            at = at.max(self.begin_of_used(at));
+            if at >= end || at % CHUNK != 0 || self.begin_of_used(at) == at {
+                break;
+            }
         }
         at.min(end)
     }
@@ -205,7 +214,7 @@ mod tests {
         store
             .write(130 * CHUNK - 512, &slices(&mut [7; 1024]), Wait::Never)
             .expect("in range");
-        assert_eq!(store.next_data(0, 300 * CHUNK), 129 * CHUNK);
+        assert_eq!(store.next_data(0, 300 * CHUNK), 130 * CHUNK - PAGE);
         assert_eq!(store.next_data(130 * CHUNK + 5, 300 * CHUNK), 130 * CHUNK + 5);
         assert_eq!(store.next_data(131 * CHUNK, 300 * CHUNK), 300 * CHUNK);
         assert_eq!(store.next_data(5, 100), 100);
@@ -222,7 +231,7 @@ mod tests {
         store
             .write(0, &slices(&mut all.clone()), Wait::Never)
             .expect("in range");
-        store.zero(512, 3 * CHUNK).expect("in range");
+        store.zero(512, 3 * CHUNK, true).expect("in range");
         let seen = content(&store, 0, all.len());
         for (i, byte) in seen.iter().enumerate() {
             assert_eq!(
@@ -236,8 +245,52 @@ mod tests {
             );
         }
         assert_eq!(store.next_data(CHUNK, 4 * CHUNK), 3 * CHUNK);
-        store.zero(0, 4 * CHUNK).expect("in range");
+        store.zero(0, 4 * CHUNK, true).expect("in range");
         assert_eq!(store.next_data(0, 4 * CHUNK), 4 * CHUNK);
         assert!(store.sync().is_ok() && store.check().is_ok() && !store.waits());
+    }
+
+    /// Random writes and zeros against bytes in a vector: what is read is the same, and where there is no data are zeros.
+    #[test]
+    fn it_is_as_a_row_of_bytes() {
+        let bytes = 2 * CHUNK + 5 * 512;
+        let store = MemoryStore::new(bytes).expect("addresses");
+        let mut model = vec![0; bytes as usize];
+        let mut state = 7u64;
+        let mut random = |below: u64| {
+            state = state.wrapping_mul(6_364_136_223_846_793_005).wrapping_add(1);
+            (state >> 33) % below
+        };
+        for round in 0..4000u64 {
+            let at = random(bytes / 512) * 512;
+            let length = (random(if round % 9 == 0 { 5000 } else { 40 }) + 1).min((bytes - at) / 512) * 512;
+            let range = at as usize..(at + length) as usize;
+            if round % 3 == 0 {
+                store.zero(at, length, true).expect("in range");
+                model[range].fill(0);
+            } else {
+                let length = length.min(20 * 512);
+                let mut data = vec![round as u8 | 1; length as usize];
+                store.write(at, &slices(&mut data), Wait::Never).expect("in range");
+                model[at as usize..(at + length) as usize].copy_from_slice(&data);
+            }
+            let from = random(bytes / 512) * 512;
+            let data = store.next_data(from, bytes);
+            assert!(
+                (from..=bytes).contains(&data) && model[from as usize..data as usize].iter().all(|byte| *byte == 0)
+            );
+            let length = (random(60) + 1).min((bytes - from) / 512) * 512;
+            assert!(content(&store, from, length as usize) == model[from as usize..(from + length) as usize]);
+        }
+        assert!(content(&store, 0, bytes as usize) == model);
+    }
+
+    #[test]
+    fn a_search_for_data_ends_soon() {
+        let store = MemoryStore::new(3 * MOST_LOOKED_AT * CHUNK).expect("addresses");
+        let end = 3 * MOST_LOOKED_AT * CHUNK;
+        let first = store.next_data(0, end);
+        assert!(first >= CHUNK * (MOST_LOOKED_AT - 1) && first < end);
+        store.zero(first, CHUNK, true).expect("in range");
     }
 }

@@ -46,12 +46,12 @@ pub trait Store: Send + Sync {
     /// As [`Store::read`]. Bytes may have been written in part then.
     fn write(&self, offset: u64, places: &[VolatileSlice<'_>], wait: Wait) -> io::Result<()>;
 
-    /// Makes the bytes zero, and gives their room back where it can. It may wait.
+    /// Makes the bytes zero, and gives their room back where it can. Without `gives_back` it may keep the room where that is quicker. It may wait.
     ///
     /// # Errors
     ///
     /// What the device says.
-    fn zero(&self, offset: u64, bytes: u64) -> io::Result<()>;
+    fn zero(&self, offset: u64, bytes: u64, gives_back: bool) -> io::Result<()>;
 
     /// The first byte from `offset` on, below `end`, that may be other than zero; `end` where there is none.
     fn next_data(&self, offset: u64, end: u64) -> u64;

@@ -219,7 +219,7 @@ fn bad_entries_are_refused_and_move_nothing() {
         (e(WRITE, 0x90000, 0, 0, 0), 0x4004),
         (e(WRITE, 0x90000, DATA, 0, 0), 0x4004),
         (e(WRITE, u64::MAX - 510, 0, 0, 0), 0x4013),
-        (e(WRITE, u64::MAX & !511, 0, 0, 0), 0x4004),
+        (e(WRITE, !511, 0, 0, 0), 0x4004),
         (e(READ, DATA, 0x9a000, 0, 15), 0x4004),
         (e(READ, DATA, 0x9a000, 0, 255), 0x4004),
         (e(READ, DATA, LIST, 0, 255), 0x4013),
