@@ -1,8 +1,8 @@
+#![forbid(unsafe_code)]
 //! A guest's doorbells in a shared page: a memfd that the client of vfio-user maps as a part of BAR0 (a sparse mmap).
 //!
 //! A guest's store is a plain store into the page, without a message. Each word of the page that has no news is all ones, which no doorbell can have as
 //! a value, so a value that equals the one before, or is for a queue made anew, is not missed.
-#![forbid(unsafe_code)]
 
 #[cfg(test)]
 mod tests;

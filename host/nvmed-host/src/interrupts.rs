@@ -1,10 +1,10 @@
+#![forbid(unsafe_code)]
 //! Interrupts of a guest: which of the client's eventfds are written, and when.
 //!
 //! The mediator's thread says which vectors were posted and which are pending ([`Signals::publish`]). The guest's thread takes that, and what the client
 //! asks for (SET_IRQS of vfio-user, and the bits of configuration space), and writes the eventfds ([`Interrupts`]). A message interrupt is sent for each
 //! vector that was posted. What was posted while its vector was masked, switched off or without an eventfd is not kept apart: when the vector is there
 //! again, it is sent where it is pending. So none is lost, and some are sent that tell a guest nothing new.
-#![forbid(unsafe_code)]
 
 mod logic;
 mod signals;

@@ -1,8 +1,8 @@
+#![forbid(unsafe_code)]
 //! Lines for the operator, to standard error: time (UTC), level, guest and message, by `tracing`. Nobody waits for who reads them.
 //!
 //! A line is put into a bounded queue, and a thread writes it. While the queue is full, lines are dropped, and their number is told when there is room
 //! again. An event with a field `guest` counts for that guest, which has 8 lines a second; then it is told how many more there were.
-#![forbid(unsafe_code)]
 
 mod line;
 mod queue;

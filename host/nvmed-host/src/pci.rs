@@ -1,8 +1,8 @@
+#![forbid(unsafe_code)]
 //! What a guest is shown beside the mediator's registers: the configuration space of the NVMe function, the version, and the shutdown status.
 //!
 //! This is presented and not proved. There is no input or output here. Sources: PCI Local Bus 3.0, "Configuration Space"; PCI Express Base 5.0, "PCI
 //! Express Capability Structure" and "Function Level Reset"; PCI Power Management 1.2; NVMe Base Specification, "Controller Properties" and "Shutdown".
-#![forbid(unsafe_code)]
 
 #[cfg(test)]
 mod tests;

@@ -1,9 +1,9 @@
+#![forbid(unsafe_code)]
 //! What the drive was given for each guest.
 //!
 //! It is counted from the entries in the lanes' rings: each names blocks, and each block is one guest's. What the mediator answers by itself, such as a
 //! refused command, is in no entry. A Flush names no block, and the ranges of a Dataset Management are not read: these are counted together, for no
 //! guest. A guest's command on two extents is two.
-#![forbid(unsafe_code)]
 
 #[cfg(test)]
 mod tests;

@@ -1,3 +1,4 @@
+#![forbid(unsafe_code)]
 //! Which interrupts are due: without input or output.
 
 use std::ops::{BitAnd, BitOr, Not};

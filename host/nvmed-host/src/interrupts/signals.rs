@@ -1,3 +1,4 @@
+#![forbid(unsafe_code)]
 //! What the mediator's thread tells a guest's thread of interrupts.
 
 use std::os::fd::{AsFd, BorrowedFd};

@@ -549,7 +549,7 @@ fn no_interrupt_is_lost() {
 #[test]
 fn no_interrupt_is_lost_between_threads() {
     use std::sync::atomic::{AtomicBool, AtomicU32, Ordering};
-    const COMPLETIONS: u32 = 50_000;
+    const COMPLETIONS: u32 = 20_000;
     let signals = Arc::new(Signals::new().unwrap());
     let (posted, head, over) = (AtomicU32::new(0), AtomicU32::new(0), AtomicBool::new(false));
     let peer = eventfd();

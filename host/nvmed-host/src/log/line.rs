@@ -1,3 +1,4 @@
+#![forbid(unsafe_code)]
 //! One line of the log.
 
 use std::fmt::{self, Debug, Write};

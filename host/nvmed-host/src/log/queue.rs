@@ -1,3 +1,4 @@
+#![forbid(unsafe_code)]
 //! The queue of lines, and the thread that writes them.
 
 use std::collections::{BTreeMap, VecDeque};
@@ -44,12 +45,29 @@ pub(super) struct Queue {
 }
 
 impl State {
+    /// That lines were dropped is told in their place: after those before them, and before the next one that finds room.
     fn put(&mut self, room: usize, line: String) {
-        if self.lines.len() < room {
-            self.lines.push_back(line);
-        } else {
+        let wanted = if self.dropped > 0 { 2 } else { 1 };
+        if self.lines.len() + wanted > room {
             self.dropped = self.dropped.saturating_add(1);
+            return;
         }
+        let report = self.report();
+        self.lines.extend(report);
+        self.lines.push_back(line);
+    }
+
+    /// What is to be told of lines that were dropped.
+    fn report(&mut self) -> Option<String> {
+        let dropped = std::mem::take(&mut self.dropped);
+        let line = || {
+            own_line(
+                Level::WARN,
+                None,
+                format_args!("{dropped} lines were dropped: nobody read them in time"),
+            )
+        };
+        (dropped > 0).then(line)
     }
 
     /// Whether a guest has a line left.
@@ -87,19 +105,9 @@ impl State {
         }
     }
 
-    /// The next line to be written. That lines were dropped is told once those before them are gone.
+    /// The next line to be written.
     fn next(&mut self) -> Option<String> {
-        self.lines.pop_front().or_else(|| {
-            let dropped = std::mem::take(&mut self.dropped);
-            let line = || {
-                own_line(
-                    Level::WARN,
-                    None,
-                    format_args!("{dropped} lines were dropped: nobody read them in time"),
-                )
-            };
-            (dropped > 0).then(line)
-        })
+        self.lines.pop_front().or_else(|| self.report())
     }
 }
 
@@ -215,11 +223,22 @@ mod tests {
         for line in ["a", "b", "c", "d", "e"] {
             put(&queue, None, now, line);
         }
-        let lines = lines(&queue);
-        assert_eq!(lines[..3], ["a", "b", "c"]);
-        assert!(lines.len() == 4 && lines[3].ends_with("WARN  2 lines were dropped: nobody read them in time\n"));
-        put(&queue, None, now, "f");
-        assert_eq!(super::tests::lines(&queue), ["f"]);
+        let told = "WARN  2 lines were dropped: nobody read them in time\n";
+        let got = lines(&queue);
+        assert_eq!(got[..3], ["a", "b", "c"]);
+        assert!(got.len() == 4 && got[3].ends_with(told));
+        for line in ["a", "b", "c", "d", "e"] {
+            put(&queue, None, now, line);
+        }
+        let take = || queue.lock().lines.pop_front();
+        assert_eq!(take(), Some("a".into()));
+        put(&queue, None, now, "f"); // there is no room for the report and this one
+        assert_eq!((take(), take()), (Some("b".into()), Some("c".into())));
+        put(&queue, None, now, "g");
+        let got = lines(&queue);
+        assert!(got.len() == 2 && got[0].contains("WARN  3 lines were dropped") && got[1] == "g");
+        put(&queue, None, now, "h");
+        assert_eq!(lines(&queue), ["h"]);
     }
 
     #[test]
