@@ -47,8 +47,6 @@ pub struct Lanes {
     window: Arc<Window>,
     /// Commands that the drive has of each guest.
     counts: Vec<u32>,
-    /// Commands that the drive got so far, modulo 2^64.
-    sent: u64,
 }
 
 /// From one place of a ring to another.
@@ -83,7 +81,6 @@ impl Lanes {
             lanes: lanes.collect(),
             window,
             counts: vec![0; guests],
-            sent: 0,
         }
     }
 
@@ -105,8 +102,9 @@ impl Lanes {
         self.lanes.iter().map(|lane| lane.at).collect()
     }
 
-    /// Looks for the entries that the work of `guest` has put into the rings, and shows each to `seen`.
-    pub fn note_sent(&mut self, side: &mut dyn Side, guest: usize, seen: &mut dyn FnMut(&[u8; ENTRY])) {
+    /// Looks for the entries that the work of `guest` has put into the rings, and shows each to `seen`. How many there were.
+    pub fn note_sent(&mut self, side: &mut dyn Side, guest: usize, seen: &mut dyn FnMut(&[u8; ENTRY])) -> u64 {
+        let mut sent = 0;
         let owner = u8::try_from(guest + 1).unwrap_or(0);
         for (number, lane) in self.lanes.iter_mut().enumerate() {
             let Some(now) = side.rings(number) else { continue };
@@ -118,11 +116,12 @@ impl Lanes {
                 let identifier = usize::from(u16::from_le_bytes([entry[2], entry[3]])) % IDENTIFIERS;
                 give(&mut lane.owners, &mut self.counts, identifier, owner);
                 lane.flying += 1;
-                self.sent = self.sent.wrapping_add(1);
+                sent += 1;
                 seen(&entry);
             }
             lane.tail = now.tail;
         }
+        sent
     }
 
     /// Looks for the completions that the work of a lane has read. The drive does not write over them before its doorbell is rung.
@@ -168,12 +167,6 @@ impl Lanes {
             }
         }
         Ok(())
-    }
-
-    /// Commands that the drive got so far, modulo 2^64.
-    #[must_use]
-    pub fn sent(&self) -> u64 {
-        self.sent
     }
 
     /// Whether the drive has commands.
