@@ -61,6 +61,8 @@ struct Driver {
     last: u16,
     begun: HashMap<u16, Instant>,
     longest_turn: Duration,
+    /// Whether the last turn left something to do at once.
+    more: bool,
 }
 
 impl Driver {
@@ -92,6 +94,7 @@ impl Driver {
         let begin = Instant::now();
         let progress = self.drive.work(TURN)?;
         self.longest_turn = self.longest_turn.max(begin.elapsed());
+        self.more = progress.more;
         let mut seen = Vec::new();
         loop {
             let last: u32 = self
@@ -149,6 +152,9 @@ impl Driver {
         let mut count = 0;
         let mut done = 0;
         while done < others {
+            if !self.more && waiting.is_empty() {
+                std::thread::sleep(Duration::from_micros(100));
+            }
             for (i, (opcode, _)) in opcodes.iter().enumerate() {
                 if !waiting.values().any(|other| *other == i) {
                     let command = self.put(*opcode, VICTIM, 0, FIRST + (count * 8) % (4 << 11), 7)?;
@@ -211,6 +217,7 @@ fn main() -> Result<(), Failure> {
         last,
         begun: HashMap::new(),
         longest_turn: Duration::ZERO,
+        more: false,
     };
     let few: &[(u8, &str)] = &[(2, "Read"), (1, "Write")];
     for dirty in [false, true] {

@@ -95,7 +95,8 @@ impl FileStore {
             reads_at_once: AtomicBool::new(true),
             writes_at_once: AtomicBool::new(true),
             has_holes: AtomicBool::new(true),
-            has_zeros: AtomicBool::new(true),
+            // Not on tmpfs, where even a look for holes takes long.
+            has_zeros: AtomicBool::new(!in_memory),
         })
     }
 
@@ -317,7 +318,8 @@ impl Store for FileStore {
 
     fn zero(&self, offset: u64, bytes: u64, gives_back: bool) -> io::Result<()> {
         // Bytes that all have room are made zero in place where that will do: it is quicker, and writes go on meanwhile.
-        if !gives_back && self.next_hole(offset) >= offset + bytes {
+        let may_keep = !gives_back && self.has_zeros.load(Ordering::Relaxed);
+        if may_keep && self.next_hole(offset) >= offset + bytes {
             let way = FallocateFlags::FALLOC_FL_ZERO_RANGE;
             if self.allocate(&self.has_zeros, way, offset, bytes)? {
                 return Ok(());

@@ -1,6 +1,5 @@
 //! Tests of the simulated drive. Expected completions are written out by hand from the NVMe specifications.
 
-mod bench_like;
 mod commands;
 mod crash;
 mod faults;
