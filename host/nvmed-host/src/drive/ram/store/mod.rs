@@ -3,6 +3,7 @@
 
 mod file;
 mod memory;
+mod vectored;
 
 #[cfg(test)]
 pub(super) mod faulty;
