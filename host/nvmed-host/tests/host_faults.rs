@@ -202,7 +202,7 @@ fn an_interrupt_that_is_no_eventfd_is_refused() {
     let host = host(&configuration(&folder, 1, ""));
     let mut client = Client::connect(&folder.path("g0")).unwrap();
     client.version().unwrap();
-    for odd in odd_descriptors().unwrap() {
+    for odd in odd_descriptors().unwrap().into_iter().take(9) {
         assert!(client.set_eventfds(client::MSIX, 0, &[odd.as_fd()]).is_err());
     }
     assert_eq!(client.read(CONFIG, 0, 2).unwrap(), [0x36, 0x1b]);
