@@ -109,7 +109,9 @@ fn a_client_goes_and_the_next_one_finds_the_blocks() {
         guest.write_blocks(0, round).unwrap();
         // it goes in the middle of commands
         for i in 0..16 {
-            guest.put(1, 2, 0x20_0000 + 0x1000 * i, [8 * i as u32 + 8, 0, 7]).unwrap();
+            guest
+                .put(1, 2, 0x20_0000 + 0x1000 * i, [8 * i as u32 + 8, 0, 7])
+                .unwrap();
         }
         guest.ring(1, false).unwrap();
     }
@@ -133,7 +135,10 @@ fn resets_under_load() {
         let begin = Instant::now();
         if round % 2 == 0 {
             guest.client.reset().unwrap();
-            assert!(begin.elapsed() < Duration::from_millis(500), "a reset is answered at once");
+            assert!(
+                begin.elapsed() < Duration::from_millis(500),
+                "a reset is answered at once"
+            );
             guest.client.write(CONFIG, 4, &[6, 0]).unwrap();
             guest.client.write(CONFIG, 0x42, &[8, 0x80]).unwrap();
         } else {
@@ -229,7 +234,11 @@ fn what_can_be_seen_without_memory() {
     assert_eq!(client.read_u32(BAR0, 8).unwrap(), 0x1_0300);
     assert_eq!(client.read(BAR0, 0, 0x4000).unwrap().len(), 0x4000);
     client.post_u32(BAR0, 0x14, 0x0046_0001).unwrap();
-    assert_eq!(client.read_u32(BAR0, 0x1c).unwrap() & 1, 0, "it is not served before its memory is there");
+    assert_eq!(
+        client.read_u32(BAR0, 0x1c).unwrap() & 1,
+        0,
+        "it is not served before its memory is there"
+    );
     drop(client);
     assert_eq!(host.end(), Outcome::Good);
 }

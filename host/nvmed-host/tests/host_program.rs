@@ -133,7 +133,8 @@ fn a_signal_ends_it_cleanly() {
     for signal in [Signal::SIGTERM, Signal::SIGINT, Signal::SIGHUP] {
         let folder = Folder::new(&format!("signal-{signal}"));
         let image = folder.path("image");
-        let text = configuration(&folder, 1, "").replace("drive ram 16M", &format!("drive ram 16M {}", image.display()));
+        let text =
+            configuration(&folder, 1, "").replace("drive ram 16M", &format!("drive ram 16M {}", image.display()));
         let mut program = Program::start(&folder, &text, &[]);
         let mut guest = connect(&folder, "g0");
         if is_real() {
@@ -227,5 +228,8 @@ fn an_idle_program_costs_little() {
     guest.await_ready(0).unwrap();
     let before = program.ticks();
     std::thread::sleep(Duration::from_secs(2));
-    assert!(program.ticks() - before <= 1, "a page of a disabled controller is not looked at");
+    assert!(
+        program.ticks() - before <= 1,
+        "a page of a disabled controller is not looked at"
+    );
 }

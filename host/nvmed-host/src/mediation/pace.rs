@@ -268,7 +268,11 @@ mod tests {
     #[test]
     fn looks_are_rarer_where_guests_have_many_commands_on_their_way() {
         let (mut pace, now) = after(TRIAL + 1, micros(30), 1);
-        assert_eq!(pace.longest(LOOKED, now), DEEP, "a trial, which is no time to go on without a pause");
+        assert_eq!(
+            pace.longest(LOOKED, now),
+            DEEP,
+            "a trial, which is no time to go on without a pause"
+        );
         pace.note(now, now, 4);
         assert_eq!(pace.longest(LOOKED, now), DEEP);
         for _ in 0..20 {
