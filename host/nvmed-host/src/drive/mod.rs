@@ -4,7 +4,9 @@
 //! doorbells here. No call waits for a controller but those that open one: what takes long goes on in threads of the drive's own.
 
 pub mod entry;
+pub mod nvme;
 pub mod prp;
+pub mod qtest;
 pub mod ram;
 
 use std::os::fd::BorrowedFd;
@@ -80,6 +82,11 @@ pub trait Drive: Send {
 
     /// Takes what made [`Drive::wake`] readable.
     fn woken(&mut self) {}
+
+    /// How a drive that hangs is dealt with, where it can be.
+    fn recover(&mut self) -> Option<&mut dyn nvme::Recover> {
+        None
+    }
 
     /// One line on the drive, for the operator.
     fn describe(&self) -> String;
