@@ -5,6 +5,7 @@
 
 pub mod nvme;
 pub mod qtest;
+pub mod vfio;
 
 use std::os::fd::BorrowedFd;
 
