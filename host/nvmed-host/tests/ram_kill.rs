@@ -1,3 +1,4 @@
+#![allow(clippy::expect_used)]
 //! A process with a simulated drive in a file is killed at any moment: its image has what was flushed, and can be used again.
 
 use std::io::{BufRead, BufReader, Write};

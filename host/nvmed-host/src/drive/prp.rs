@@ -157,3 +157,44 @@ impl Places {
 fn address_of(entry: &[u8]) -> u64 {
     entry.iter().rev().fold(0, |value, byte| value << 8 | u64::from(*byte))
 }
+
+#[cfg(test)]
+mod tests {
+    use super::*;
+
+    struct All;
+
+    impl SharedMemory for All {
+        fn slice(&self, _: u64, len: usize) -> Option<VolatileSlice<'_>> {
+            // Bytes that nobody looks at: there are only transfers of one or two pages here.
+            Some(VolatileSlice::from(Box::leak(vec![0u8; len].into_boxed_slice())))
+        }
+    }
+
+    #[test]
+    fn parts_are_cut_at_any_byte() {
+        let places = Places::find(&All, 0x1f00, 0x5000, 0x300).expect("places");
+        let parts = |from, bytes| {
+            places
+                .part(from, bytes)
+                .map(|place| (place.host, place.bytes))
+                .collect::<Vec<_>>()
+        };
+        assert_eq!(places.bytes(), 0x300);
+        assert_eq!(parts(0, 0x300), [(0x1f00, 0x100), (0x5000, 0x200)]);
+        assert_eq!(parts(0, 0x100), [(0x1f00, 0x100)]);
+        assert_eq!(parts(0x80, 0x100), [(0x1f80, 0x80), (0x5000, 0x80)]);
+        assert_eq!(parts(0x100, 0x1000), [(0x5000, 0x200)]);
+        assert_eq!(parts(0x2ff, 5), [(0x51ff, 1)]);
+        assert_eq!(parts(0x300, 5), []);
+        assert_eq!(parts(0, 0), []);
+    }
+
+    #[test]
+    fn lengths_are_checked() {
+        assert_eq!(Places::find(&All, 0, 0, 0).err(), Some(PrpError::Outside));
+        assert_eq!(Places::find(&All, 0, 0, MOST_BYTES + 1).err(), Some(PrpError::Outside));
+        assert_eq!(Places::find(&All, 0, 0, u32::MAX).err(), Some(PrpError::Outside));
+        assert!(Places::find(&All, 0x8000, 0, PAGE_BYTES as u32).is_ok());
+    }
+}

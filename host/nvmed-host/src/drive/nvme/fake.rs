@@ -1,4 +1,3 @@
-#![forbid(unsafe_code)]
 //! A controller in memory for tests: properties, doorbells, admin commands and lanes, each with faults to choose. Its clock goes on by
 //! [`FakeAccess::pause`] and by the tests alone.
 
@@ -66,7 +65,8 @@ impl TestMemory {
     }
 }
 
-impl DriveMemory for TestMemory {
+// SAFETY: the region stays mapped as long as this value, and the pieces lie in it.
+unsafe impl DriveMemory for TestMemory {
     fn slice(&self, host: u64, len: usize) -> Option<VolatileSlice<'_>> {
         let is_in = |p: &&Piece| host >= p.host && host - p.host < p.bytes && len as u64 <= p.bytes - (host - p.host);
         self.pieces.iter().find(is_in)?;

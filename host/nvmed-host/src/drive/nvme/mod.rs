@@ -1,4 +1,3 @@
-#![forbid(unsafe_code)]
 //! The driver's side of a physical NVMe controller: it is reset, enabled with an admin queue of its own, looked at, and given one pair of I/O queues for
 //! each lane. What the controller says is not trusted: each property, each field of Identify that is used and each admin completion is checked, and each
 //! wait has a limit. Completions of lanes are the mediator's.

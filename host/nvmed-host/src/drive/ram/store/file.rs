@@ -1,9 +1,9 @@
-#![allow(unsafe_code)]
+#![forbid(unsafe_code)]
 //! Bytes in a regular file, by system calls at offsets: a file that is cut off gives an error, no signal.
 
 use std::fs::{File, OpenOptions};
 use std::io;
-use std::os::fd::{AsRawFd, RawFd};
+use std::os::fd::{AsFd, AsRawFd, RawFd};
 use std::os::unix::fs::{MetadataExt, OpenOptionsExt};
 use std::path::{Path, PathBuf};
 use std::sync::atomic::{AtomicBool, Ordering};
@@ -14,11 +14,13 @@ use nix::sys::statvfs::fstatvfs;
 use nix::unistd::{lseek, Whence};
 use vm_memory::VolatileSlice;
 
+use super::calls::{self, Way};
+use super::dirty::{Dirty, CHUNK};
 use super::{Store, Wait};
 use crate::drive::DriveError;
 
-/// Places that one system call takes: more than a command of 128 KiB has.
-const MOST_PLACES: usize = 40;
+/// Chunks that a sync may hand to the device at once.
+const FEW_CHUNKS: usize = 2;
 /// Zeros, for file systems without holes.
 static ZEROS: [u8; 65536] = [0; 65536];
 
@@ -28,6 +30,9 @@ pub struct FileStore {
     words: String,
     bytes: u64,
     waits: bool,
+    dirty: Dirty,
+    /// Whether the file system writes parts of a file back.
+    writes_back: AtomicBool,
     /// Whether the file system takes reads and writes that may not wait.
     reads_at_once: AtomicBool,
     writes_at_once: AtomicBool,
@@ -74,9 +79,7 @@ impl FileStore {
         }
         if is_new {
             let folder = folder_of(path);
-            File::open(&folder)
-                .and_then(|f| f.sync_all())
-                .map_err(|e| refused("its folder cannot be made durable", &e))?;
+            sync_folder(&folder).map_err(|e| refused("its folder cannot be made durable", &e))?;
         }
         warn_of_little_room(path, &file, about.blocks().saturating_mul(512), bytes);
         let in_memory = fstatfs(&*file)
@@ -92,6 +95,8 @@ impl FileStore {
             words,
             bytes,
             waits: !in_memory,
+            dirty: Dirty::new(bytes),
+            writes_back: AtomicBool::new(!in_memory),
             reads_at_once: AtomicBool::new(true),
             writes_at_once: AtomicBool::new(true),
             has_holes: AtomicBool::new(true),
@@ -104,26 +109,8 @@ impl FileStore {
         self.file.as_raw_fd()
     }
 
-    /// Moves all bytes of `places`, in as many calls as it takes.
     fn move_all(&self, way: Way, offset: u64, places: &[VolatileSlice<'_>], flags: i32) -> io::Result<()> {
-        let mut at = offset;
-        for group in places.chunks(MOST_PLACES) {
-            let total = group.iter().map(|place| place.len()).sum::<usize>();
-            let mut done = 0;
-            while done < total {
-                match move_some(self.fd(), way, at, group, done, flags) {
-                    Ok(0) if way == Way::Read => return Err(io::ErrorKind::UnexpectedEof.into()),
-                    Ok(0) => return Err(io::ErrorKind::WriteZero.into()),
-                    Ok(moved) => {
-                        done += moved;
-                        at += moved as u64;
-                    }
-                    Err(error) if error.kind() == io::ErrorKind::Interrupted => {}
-                    Err(error) => return Err(error),
-                }
-            }
-        }
-        Ok(())
+        calls::move_all(self.file.as_fd(), way, offset, places, flags)
     }
 
     /// Moves the bytes without waiting, or says that it would wait.
@@ -175,6 +162,30 @@ impl FileStore {
         at.and_then(|at| u64::try_from(at).ok()).unwrap_or(offset)
     }
 
+    /// Writes chunks back, one after another. A sync that finds much to write hands all of it to the device at once, and whatever others need of that
+    /// device then waits behind it.
+    fn write_back(&self, chunks: &[u64]) -> io::Result<()> {
+        for offset in chunks {
+            if !self.writes_back.load(Ordering::Relaxed) {
+                return Ok(());
+            }
+            match calls::write_back(self.file.as_fd(), *offset, CHUNK) {
+                Ok(()) => {}
+                Err(error) if error.kind() == io::ErrorKind::Interrupted => {}
+                Err(error)
+                    if matches!(
+                        error.raw_os_error(),
+                        Some(libc::EINVAL | libc::ENOSYS | libc::EOPNOTSUPP)
+                    ) =>
+                {
+                    self.writes_back.store(false, Ordering::Relaxed);
+                }
+                Err(error) => return Err(error),
+            }
+        }
+        Ok(())
+    }
+
     fn write_zeros(&self, offset: u64, bytes: u64) -> io::Result<()> {
         let mut at = offset;
         let end = offset + bytes;
@@ -186,49 +197,6 @@ impl FileStore {
         }
         Ok(())
     }
-}
-
-/// Which way bytes go.
-#[derive(Clone, Copy, Debug, PartialEq, Eq)]
-enum Way {
-    Read,
-    Write,
-}
-
-/// One system call: moves bytes between the file from `at` on and `places`, without the first `skip` bytes of these. Returns how many were moved.
-fn move_some(fd: RawFd, way: Way, at: u64, places: &[VolatileSlice<'_>], skip: usize, flags: i32) -> io::Result<usize> {
-    let at = libc::off_t::try_from(at).map_err(io::Error::other)?;
-    let mut vector = [libc::iovec {
-        iov_base: std::ptr::null_mut(),
-        iov_len: 0,
-    }; MOST_PLACES];
-    let mut count = 0;
-    let mut skip = skip;
-    for place in places {
-        if skip >= place.len() {
-            skip -= place.len();
-            continue;
-        }
-        let Some(slot) = vector.get_mut(count) else { break };
-        let rest = place.offset(skip).map_err(io::Error::other)?;
-        *slot = libc::iovec {
-            iov_base: rest.ptr_guard_mut().as_ptr().cast(),
-            iov_len: rest.len(),
-        };
-        skip = 0;
-        count += 1;
-    }
-    let (vector, count) = (vector.as_ptr(), count as libc::c_int);
-    // SAFETY: the first `count` elements of the vector are pointers and lengths of volatile slices, which are valid for reads and writes as long as
-    // `places` is borrowed, and to which no reference exists: others write them at any time. The kernel accesses these bytes alone, and gives EFAULT where
-    // a page has lost its file. The kernel reads the vector only.
-    let moved = unsafe {
-        match way {
-            Way::Read => libc::preadv2(fd, vector, count, at, flags),
-            Way::Write => libc::pwritev2(fd, vector, count, at, flags),
-        }
-    };
-    usize::try_from(moved).map_err(|_| io::Error::last_os_error())
 }
 
 /// Opens the image, or creates it, and says whether it is new.
@@ -277,6 +245,14 @@ fn lock(file: File) -> io::Result<Flock<File>> {
     Ok(file)
 }
 
+/// Makes a folder's entries durable, where its file system has such a thing.
+fn sync_folder(folder: &Path) -> io::Result<()> {
+    match File::open(folder)?.sync_all() {
+        Err(error) if error.raw_os_error() == Some(libc::EINVAL) => Ok(()),
+        synced => synced,
+    }
+}
+
 fn folder_of(path: &Path) -> PathBuf {
     match path.parent() {
         Some(folder) if !folder.as_os_str().is_empty() => folder.to_path_buf(),
@@ -310,10 +286,13 @@ impl Store for FileStore {
     }
 
     fn write(&self, offset: u64, places: &[VolatileSlice<'_>], wait: Wait) -> io::Result<()> {
-        match wait {
+        let written = match wait {
             Wait::Allowed => self.move_all(Way::Write, offset, places, 0),
             Wait::Never => self.move_at_once(Way::Write, offset, places),
-        }
+        };
+        self.dirty
+            .mark(offset, places.iter().map(|place| place.len() as u64).sum());
+        written
     }
 
     fn zero(&self, offset: u64, bytes: u64, gives_back: bool) -> io::Result<()> {
@@ -341,6 +320,10 @@ impl Store for FileStore {
     }
 
     fn sync(&self) -> io::Result<()> {
+        let chunks = self.dirty.take();
+        if chunks.len() > FEW_CHUNKS {
+            self.write_back(&chunks)?;
+        }
         loop {
             match self.file.sync_data() {
                 Err(error) if error.kind() == io::ErrorKind::Interrupted => {}

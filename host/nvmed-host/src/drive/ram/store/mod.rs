@@ -1,6 +1,8 @@
 #![deny(unsafe_code)]
 //! Where a simulated drive keeps its bytes: memory, or a file.
 
+mod calls;
+mod dirty;
 mod file;
 mod memory;
 

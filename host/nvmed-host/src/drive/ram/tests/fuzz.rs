@@ -147,22 +147,35 @@ fn random_commands_on_a_store_that_waits_and_fails() {
 #[test]
 fn random_commands_do_what_a_plain_model_does() {
     let mut random = Random::new(13);
-    for waits in [false, true] {
-        let mut rig = match waits {
-            false => Rig::usual(),
-            true => Rig::over(Arc::new(FaultyStore::new(true, BLOCKS)), BLOCKS),
+    let folder = super::image::Folder::new();
+    for kind in 0..4 {
+        let mut rig = match kind {
+            0 => Rig::usual(),
+            1 => Rig::over(Arc::new(FaultyStore::new(true, BLOCKS)), BLOCKS),
+            2 => super::image::open(&folder.file("image")).expect("a drive"),
+            _ => {
+                // A tmpfs, where there is one.
+                let image = std::path::PathBuf::from(format!("/dev/shm/nvmed-ram-{}", std::process::id()));
+                let Ok(rig) = super::image::open(&image) else { continue };
+                std::fs::remove_file(image).expect("the image");
+                rig
+            }
         };
         let mut disk = vec![0u8; BLOCKS as usize * 512];
         for i in 0..31u64 {
             rig.memory.put64(LIST + 8 * i, DATA + 0x1000 * (i + 1));
         }
-        for round in 0..1500u32 {
+        for round in 0..if kind == 2 { 300 } else { 1500u32 } {
             let count = 1 + random.below(256);
             let first = random.below(BLOCKS - count + 1);
             let bytes = first as usize * 512..(first + count) as usize * 512;
             let prp2 = if count > 16 { LIST } else { DATA + 0x1000 };
             let mut one = |opcode, first, d12| rig.run(entry(opcode, DATA, prp2, first, d12));
-            let forced = if random.below(3) == 0 { FORCED } else { 0 };
+            let forced = if random.below(if kind == 2 { 20 } else { 3 }) == 0 {
+                FORCED
+            } else {
+                0
+            };
             match random.below(5) {
                 0 => {
                     assert_eq!(one(8, first, (count as u32 - 1) | forced), 0);

@@ -34,7 +34,7 @@ impl Drop for Folder {
     }
 }
 
-fn open(image: &std::path::Path) -> Result<Rig, String> {
+pub fn open(image: &std::path::Path) -> Result<Rig, String> {
     let memory = Memory::usual();
     let drive = RamDrive::in_file(Arc::clone(&memory), BLOCKS, image).map_err(|e| e.to_string())?;
     Ok(Rig::new(memory, drive))

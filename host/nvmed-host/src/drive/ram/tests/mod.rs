@@ -6,6 +6,7 @@ mod faults;
 mod fuzz;
 mod image;
 mod rings;
+mod waits;
 
 use std::os::fd::AsFd;
 use std::sync::{Arc, Mutex};
