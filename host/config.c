@@ -174,7 +174,7 @@ static bool on_guest(parser *p) {
     if (g > c->guests) return FAULT(p, "guests are numbered from 0 in order: this one should be %u", c->guests);
     if (strcmp(p->word[2], "memory")) return FAULT(p, "'memory' is expected, not '%.40s'", p->word[2]);
     config_guest *new = &c->guest[g];
-    *new = (config_guest){.line = p->line, .descriptors = 1024};
+    *new = (config_guest){.line = p->line, .descriptors = 1024, .version = CONFIG_VERSION};
     if (!size(p, "the guest's memory", p->word[3], MOST_BYTES, &new->memory)) return false;
     for (unsigned i = 0; i <= g; i++) sum += c->guest[i].memory;
     if (sum > MOST_BYTES) return FAULT(p, "the guests' memories are more than %" PRIu64 " bytes together", MOST_BYTES);
@@ -221,10 +221,13 @@ static bool on_version(parser *p) {
     } known[] = {{"1.0", 0x10000}, {"1.1", 0x10100}, {"1.2", 0x10200}, {"1.2.1", 0x10201}, {"1.3", 0x10300}, {"1.4", 0x10400}, {"2.0", 0x20000}};
     config_guest *g = guest_of(p);
     if (!g) return false;
-    if (g->version) return FAULT(p, "%s", "the guest's version stands in a former line already");
-    for (size_t i = 0; i < sizeof known / sizeof known[0]; i++)
-        if (!strcmp(p->word[2], known[i].name)) g->version = known[i].value;
-    return g->version || FAULT(p, "the version is none of 1.0, 1.1, 1.2, 1.2.1, 1.3, 1.4 and 2.0: %.40s", p->word[2]);
+    if (g->version_said) return FAULT(p, "%s", "the guest's version stands in a former line already");
+    for (size_t i = 0; i < sizeof known / sizeof known[0] && !g->version_said; i++)
+        if (!strcmp(p->word[2], known[i].name)) {
+            g->version = known[i].value;
+            g->version_said = true;
+        }
+    return g->version_said || FAULT(p, "the version is none of 1.0, 1.1, 1.2, 1.2.1, 1.3, 1.4 and 2.0: %.40s", p->word[2]);
 }
 
 /* listen G PATH */

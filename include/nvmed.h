@@ -23,22 +23,36 @@
  *   - no slot of its completion queues has a byte that an outstanding command names;
  *   - it stores nothing into what an outstanding command names, and loads nothing from what one writes.
  *
- * Where the drive is the host's, EXACT, CONTAINED and PRIVATE have one more premise, which nothing here can prove: what the calls and the drive did is
- * a log of the definition's events. That is so where the drive does what NVMe says of the commands in its rings, and nobody writes into the memory that
- * is lent but these calls, guests (each into its own memory), and the drive (what its commands name, and the completion rings). SAFE needs none of that.
+ * Where the memory and the drive are the host's (nvmed_serve), the following holds, and no more.
+ *
+ * Proved: whatever guests and the drive have left in memory when a call begins, the call is safe, ends, and does what the definition's step does with
+ * those bytes, as long as nobody else writes there until it returns (IsDone of nv_host). Proved where a log of the definition's events leads to that
+ * moment: nothing of another guest's is read, changed or named to the drive (IsPromised of nv_host). A host with a real drive, or with guests that run
+ * meanwhile, isn't at such a moment at every call.
+ *
+ *   Every case  SAFE. EXACT of one call: its answer, the mediator and the memory after it are those of the definition's step in every world that has this
+ *               mediator and this memory. Of REAP this is said of worlds that events of the definition lead to; in every case its answer follows from the
+ *               lane and the completion that is read next. nvmed_work is a row of such steps. Of other guests this says what the definition's step says: a
+ *               reader finds there that a step uses its own guest's controller, map, tags and pages and the shared numbers, but no contract states it.
+ *   A log       CONTAINED and PRIVATE, and EXACT of all calls together, hold of each log of the definition's events that leads to the mediator and the
+ *               memory. There is one only where, between two calls, the drive has moved whole blocks, its completions have zeros in DW0, DW1, More and
+ *               CRD and the submission queue head that the definition has, deallocated blocks read zeros, each guest wrote its own memory alone, nobody
+ *               else wrote, and nothing has changed while a call ran. NVMe lets a drive do otherwise, and guests on other processors store at any time.
+ *   Assumed     SAFE, too, needs that nobody else writes while a call runs, or that the compiler reads once what the code reads once: a test of one binary
+ *               (bench/single_fetch.py) stands for the second.
  *
  * What C has to keep to, which nothing checks:
  *   - A pointer is null, or points to as much as is said. What is written does not overlap what else is passed, nor what a view showed.
  *   - A handle has one caller at a time, for every call: while a call runs it writes to the handle, even if it changes nothing of the mediator. A handle
- *     may go from thread to thread, with a lock or a join between the calls.
+ *     may go from thread to thread, with a lock or a join between the calls: that is tested (examples/threads.c), not proved.
  *   - A handle is zero before its first use (NVMED_INIT), and is not copied while it holds a mediator.
- *   - The memory that is lent to nvmed_serve stays there until nvmed_free: host_bytes of address space, of which only what regions and the mediator's
- *     area name is ever touched.
+ *   - The memory that is lent to nvmed_serve stays there until nvmed_free: host_bytes of address space. Only what regions and the mediator's area name is
+ *     written (proved where a log leads there). That nothing else is read, so that the rest may be holes, is tested: no contract speaks of reads.
  *   - malloc, realloc and free come from one allocator. No call is made from a signal handler.
  *
  * For a null pointer a call returns NVMED_NULL and does nothing else. A null pointer with a length of 0 is an empty list. The lines of this file that
  * test pointers, and those that set an output to 0 or to null, are C and not proved; all else is. Nothing aborts, prints, waits, or is kept outside the
- * handle.
+ * handle. What a call costs, and that memory which was taken is given back, is tested and not proved.
  */
 #ifndef NVMED_H
 #define NVMED_H
@@ -77,7 +91,7 @@ typedef enum nvmed_status {
     NVMED_IN_USE = 17,         /* the handle holds one already */
     NVMED_NO_SUCH = 18,        /* a number that is looked at is above 255 (of a queue 65,535), or no such kind of event, scope, status or block */
     NVMED_NULL = 19,           /* a pointer is null that may not be */
-    NVMED_OTHER_MEMORY = 20,   /* the memory that is lent is not as long as the set-up says */
+    NVMED_OTHER_MEMORY = 20,   /* the memory that is lent is not as long as the set-up says: the handle's members were changed */
     NVMED_CLOSED = 21,         /* the lane was closed: nothing is taken for it any more */
     NVMED_STRAY = 22           /* a completion of the drive names no command that it has: close the lane */
 } nvmed_status;
@@ -227,11 +241,12 @@ static inline nvmed_status nvmed_new(nvmed *m, const nvmed_sizes *sizes, const u
 }
 
 /* The same for a host that has the memory and the drive: `memory` is where host address 0 is, of sizes->host_bytes bytes, and the host addresses are
- * those that the drive uses. Guests' regions and the mediator's area lie in it; nothing else of it is touched, so the rest may be holes. The library
- * keeps no pointer: this header lends the memory to each call. The drive may have any blocks, and the memory any bytes; the lanes' completion rings are
- * cleared. SAFE, EXACT, CONTAINED and PRIVATE as nvmed_new.
+ * those that the drive uses. Guests' regions and the mediator's area lie in it; the rest may be holes. The library keeps no pointer: this header lends
+ * the memory to each call. The drive may have any blocks, and the memory any bytes; the lanes' completion rings are cleared. SAFE, EXACT, CONTAINED and
+ * PRIVATE as nvmed_new, with what is said above of a host's memory and drive.
  * Each guest has a share of a lane's 64 tags (nvmed_share).
- * Errors: as of nvmed_new; BAD_SIZE, too, where host_bytes is above 2^47 or disk_blocks above 2^48, or the guests have more than 64 extents together. */
+ * Errors: as of nvmed_new; BAD_SIZE, too, where host_bytes is above 2^47 or disk_blocks above 2^48, or the guests have more than 64 extents together.
+ * After NO_MEMORY the lanes' completion rings may have been cleared; after every other error no byte of the memory has changed. */
 static inline nvmed_status nvmed_serve(nvmed *m, void *memory, const nvmed_sizes *sizes, const uint32_t *limits, uint64_t guests,
                                        const nvmed_region *regions, uint64_t region_count, const nvmed_extent *extents, uint64_t extent_count) {
     nvmed_status status;
@@ -248,7 +263,7 @@ static inline nvmed_status nvmed_serve(nvmed *m, void *memory, const nvmed_sizes
     return status;
 }
 
-/* Gives back the mediator and all memory that it took. The handle holds none then, and may be used anew; views end. SAFE.
+/* Gives back the mediator and all memory that it took (that it is all is tested). The handle holds none then, and may be used anew; views end. SAFE.
  * Errors: NULL, NO_MEDIATOR. */
 static inline nvmed_status nvmed_free(nvmed *m) {
     if (!m) return NVMED_NULL;
@@ -294,13 +309,15 @@ static inline nvmed_status nvmed_doorbell(nvmed *m, uint32_t guest, uint32_t off
 
 /* Carries out an event that is no guest's act: that of its kind, with the numbers that the kind looks at. SAFE, EXACT, CONTAINED, PRIVATE. After
  * DEV_FAIL of a guest's command PRIVATE says nothing of that guest. LIST, SUBMIT and DEV_TAKE may need memory; no other kind does.
- * Errors: NULL, NO_MEDIATOR, NO_SUCH, IDLE to IGNORED as the event has it, and NO_MEMORY of LIST, SUBMIT and DEV_TAKE alone. */
+ * Errors: NULL, NO_MEDIATOR, NO_SUCH, IDLE to IGNORED as the event has it, NO_MEMORY of LIST, SUBMIT and DEV_TAKE alone; and, where the drive is the
+ * host's, CLOSED of a TAKE for a lane that was closed, STRAY of a REAP, and OTHER_MEMORY. After each of these nothing has changed. */
 static inline nvmed_status nvmed_step(nvmed *m, const nvmed_event *event) {
     return m && event ? (nvmed_status)nvmed_raw_step(&m->handle, event, nvmed_lent(m), m->bytes) : NVMED_NULL;
 }
 
-/* Whether an event is one of ADMIN, TAKE, DEV_TAKE, DEV_MOVE, DEV_POST, REAP and POST and would be done now: *due is 1 then, and else 0. Nothing
- * changes. SAFE, EXACT. Errors: NULL, NO_MEDIATOR, NO_SUCH; *due is 0 then. */
+/* Whether an event is one of ADMIN, TAKE, DEV_TAKE, DEV_MOVE, DEV_POST, REAP and POST and would be done now: *due is 1 then, and else 0. Where the
+ * drive is the host's, a REAP is due wherever the slot that is read next has the wanted phase tag, so also where its completion is stray: then
+ * nvmed_step answers STRAY. Nothing changes. SAFE, EXACT. Errors: NULL, NO_MEDIATOR, NO_SUCH, OTHER_MEMORY; *due is 0 then. */
 static inline nvmed_status nvmed_due(nvmed *m, const nvmed_event *event, uint32_t *due) {
     if (!m || !event || !due) return NVMED_NULL;
     *due = 0;
@@ -313,8 +330,9 @@ static inline nvmed_status nvmed_due(nvmed *m, const nvmed_event *event, uint32_
  * nvmed_serve, is a command for which its guest's share of a lane has no room (nvmed_share). SAFE, EXACT
  * (each event was due, or was wanted for a command's plan, and of that scope; *done counts them; no act, no failure, and with the answer OK no command
  * was given up), CONTAINED, PRIVATE. Of all, a guest gets at most 64 events before the next guest or lane that has something. This order is not proved.
- * Errors: NULL, NO_MEDIATOR, NO_SUCH (*done is 0), NO_MEMORY: *done events were made. Then there was no memory for what is left, or none for the plan of
- * a command: its last event gave that command up, which ends with Internal Error, and the other commands go on at the next call. */
+ * Errors: NULL, NO_MEDIATOR, NO_SUCH, OTHER_MEMORY (*done is 0); NO_MEMORY: *done events were made. Then there was no memory for what is left, or none for
+ * the plan of a command: its last event gave that command up, which ends with Internal Error, and the other commands go on at the next call. STRAY, where
+ * the drive is the host's: *done events were made, and the next completion of a lane of that scope names no command that the drive has. */
 static inline nvmed_status nvmed_work(nvmed *m, uint32_t scope, uint32_t number, uint64_t most, uint64_t *done) {
     if (!m || !done) return NVMED_NULL;
     *done = 0;
@@ -330,8 +348,8 @@ static inline nvmed_status nvmed_rings(nvmed *m, uint32_t lane, nvmed_lane_rings
 }
 
 /* Which interrupts of a guest are pending: *count of its vectors, of queues in ascending order. A vector is pending where a completion queue has it, the
- * queue's interrupts are enabled, and the queue has completions that the guest has not acknowledged by its doorbell. The admin queue has vector 0. It
- * costs the same whatever there is. SAFE, EXACT.
+ * queue's interrupts are enabled, and the queue has completions that the guest has not acknowledged by its doorbell. The admin queue has vector 0.
+ * SAFE, EXACT.
  * Errors: NULL, NO_MEDIATOR, NO_SUCH (above 255, or the mediator is a simulation), IGNORED (no such guest); *count is 0 then. */
 static inline nvmed_status nvmed_pending(nvmed *m, uint32_t guest, uint16_t vectors[NVMED_VECTORS], uint32_t *count) {
     uint32_t queue, vector = 0;
@@ -346,8 +364,9 @@ static inline nvmed_status nvmed_pending(nvmed *m, uint32_t guest, uint16_t vect
 }
 
 /* Of which guests other vectors are pending than when it was called last with *seen: bit g of *guests for guest g. So a host with many idle guests asks
- * once, and then nvmed_pending for those. Each caller has a nvmed_seen of its own, which begins with zeros, and is used with one mediator. It costs the same
- * whatever there is. SAFE, EXACT (of each guest; the loop over them is a line of this header).
+ * once, and then nvmed_pending for those. Each caller has a nvmed_seen of its own, which begins with zeros, and is used with one mediator. It serves
+ * level-triggered interrupts: a completion that is posted while its vector is pending changes nothing here (nvmed_posted reports it). SAFE, EXACT (of
+ * each guest; the loop over them is a line of this header).
  * Errors: NULL, NO_MEDIATOR, NO_SUCH (the mediator is a simulation); *guests is 0 then, and *seen as it was. */
 static inline nvmed_status nvmed_changed(nvmed *m, nvmed_seen *seen, uint32_t *guests) {
     uint32_t guest;
@@ -376,8 +395,9 @@ static inline nvmed_status nvmed_share(nvmed *m, uint32_t guest, uint32_t tags) 
 /* Closes a lane, where the drive can't be relied on any more. The host has stopped the drive before. Completions that are there are read as long as they
  * name commands; then each command of the lane that is on its way ends with Internal Error, as if the drive had failed it, which the guest may try
  * again. Nothing is taken for the lane from then on; the other lanes go on. To use the drive again the host makes another mediator. It needs no memory.
- * SAFE, EXACT, CONTAINED; PRIVATE says nothing of a guest that had a command there.
- * Errors: NULL, NO_MEDIATOR, NO_SUCH (no such lane, or the drive is the library's own). */
+ * SAFE; in every case nothing changes of the mediator but that lane, and of the memory but the lane's completion ring. Where a log leads to the call,
+ * one leads past it: EXACT, CONTAINED, and PRIVATE of guests that had no command there. After a stray completion no log does.
+ * Errors: NULL, NO_MEDIATOR, NO_SUCH (no such lane, or the drive is the library's own), OTHER_MEMORY. */
 static inline nvmed_status nvmed_close(nvmed *m, uint32_t lane) {
     return m ? (nvmed_status)nvmed_raw_close(&m->handle, lane, nvmed_lent(m), m->bytes) : NVMED_NULL;
 }

@@ -29,7 +29,6 @@ make_files() {
 guest_lines() {
     echo "guest $1 memory $2"
     echo "extent $1 $3 $blocks"
-    echo "version $1 1.2"
     echo "start $1 qemu-system-x86_64 -accel $accelerator -display none -serial file:$room/serial.$1 -no-reboot -net none ${4:-}"
 }
 

@@ -6,6 +6,7 @@ pub mod config;
 pub mod doorbells;
 pub mod drive;
 pub mod guest;
+pub mod host;
 pub mod interrupts;
 pub mod layout;
 pub mod log;

@@ -1,3 +1,178 @@
 //! `nvmed-host`: virtual machines with unmodified drivers share an NVMe drive through the proved mediator.
 
-fn main() {}
+#![forbid(unsafe_code)]
+
+use std::path::{Path, PathBuf};
+use std::process::ExitCode;
+use std::time::Duration;
+
+use clap::error::ErrorKind;
+use clap::{Arg, ArgAction, Command};
+use nvmed_host::config::Config;
+use nvmed_host::host::{Host, Outcome};
+use nvmed_host::log::Log;
+use nvmed_host::signals::Signals;
+use tracing_subscriber::filter::LevelFilter;
+
+/// Statuses of the program.
+const ENDED: u8 = 0;
+const FAILED: u8 = 1;
+const USAGE: u8 = 2;
+const DRIVE_FAILED: u8 = 3;
+
+/// How long the end waits for a reader of standard error.
+const LAST_LINES: Duration = Duration::from_secs(1);
+
+const LINES: &str = "\
+The configuration has plain lines; '#' begins a comment, and a word in quotes may have spaces:
+
+  drive ram SIZE [FILE]       a simulated drive, in memory or in a file
+  drive qemu SOCKET FILE      the controller of a QEMU: its qtest socket, and the file that is the first part of its RAM
+  drive vfio 0000:01:00.0     a controller that is bound to vfio-pci
+  lanes N                     pairs of queues of the drive, 1 to 8 (1)
+  spin N                      microseconds that the program goes on without a pause after its last event, 0 to 1000000 (50)
+  guest G memory SIZE [FILE]  a guest, numbered from 0 in order, its memory, and the file for it
+  extent G BASE BLOCKS        blocks of 512 bytes of the drive that are the guest's: one to eight such lines
+  share G TAGS                of the 64 tags of each lane, at most so many (its part of those that are left)
+  descriptors G N             of a scatter gather list, 1 to 4096 (1024)
+  version G 1.4               what its version register says, 1.0 to 2.0 (1.3)
+  machine G q35|pc            the type of its machine (that of the words of start, or q35)
+  trust G                     a file of memory that cannot be sealed is taken
+  doorbells G page|messages   how it rings its doorbells (page)
+  interrupts G messages|pin   how it is interrupted (messages)
+  listen G PATH               its machine connects to this socket by vfio-user, or
+  start G WORD..              its QEMU is started with these words; more such lines add words
+
+With --statistics a line a second says what the drive was given: of each guest its reads and writes, and their bytes.
+Status: 0 where all guests ended or a signal ended it, 1 where it could not begin, 2 for wrong words, 3 where the drive failed.";
+
+fn words() -> Command {
+    Command::new("nvmed-host")
+        .about("Virtual machines share an NVMe drive through a proved mediator.")
+        .disable_version_flag(true)
+        .after_help(LINES)
+        .args_conflicts_with_subcommands(true)
+        .subcommand_negates_reqs(true)
+        .arg(
+            Arg::new("statistics")
+                .long("statistics")
+                .action(ArgAction::SetTrue)
+                .help("A line a second of what the drive was given"),
+        )
+        .arg(
+            Arg::new("configuration")
+                .value_name("CONFIGURATION")
+                .required_unless_present("version")
+                .value_parser(clap::value_parser!(PathBuf))
+                .help("The file of the configuration"),
+        )
+        .arg(
+            Arg::new("version")
+                .long("version")
+                .action(ArgAction::SetTrue)
+                .help("The version of the program and of its library, and whether that is proved"),
+        )
+        .subcommand(
+            Command::new("check")
+                .about("Says what is wrong with a configuration, and starts nothing")
+                .arg(
+                    Arg::new("file")
+                        .value_name("FILE")
+                        .required(true)
+                        .value_parser(clap::value_parser!(PathBuf))
+                        .help("The file of the configuration"),
+                ),
+        )
+}
+
+/// The version of this program, of the library's interface, and which kind of library there is.
+fn version() -> String {
+    let kind = nvmed::LIBRARY.warning().unwrap_or("its mediator is proved");
+    format!(
+        "{} (library {}: {kind})",
+        env!("CARGO_PKG_VERSION"),
+        nvmed::Version::of_library()
+    )
+}
+
+fn main() -> ExitCode {
+    let matches = match words().try_get_matches() {
+        Ok(matches) => matches,
+        Err(error) => {
+            let asked = error.kind() == ErrorKind::DisplayHelp;
+            // a reader that is gone has nothing to be told
+            let _gone = error.print();
+            return ExitCode::from(if asked { ENDED } else { USAGE });
+        }
+    };
+    let path_of = |matches: &clap::ArgMatches, name| matches.get_one::<PathBuf>(name).cloned().unwrap_or_default();
+    if let Some(("check", matches)) = matches.subcommand() {
+        return ExitCode::from(check(&path_of(matches, "file")));
+    }
+    if matches.get_flag("version") {
+        println!("nvmed-host {}", version());
+        return ExitCode::from(ENDED);
+    }
+    ExitCode::from(run(&path_of(&matches, "configuration"), matches.get_flag("statistics")))
+}
+
+/// Reads a configuration, and starts nothing.
+fn check(path: &Path) -> u8 {
+    match Config::read(path) {
+        Ok(config) => {
+            println!("{}: good, with {} guests", path.display(), config.guests.len());
+            ENDED
+        }
+        Err(error) => {
+            eprintln!("nvmed-host: {error}");
+            FAILED
+        }
+    }
+}
+
+/// Runs until all guests have ended or a signal comes.
+fn run(path: &Path, counting: bool) -> u8 {
+    // before other threads are there, which have this one's mask
+    let signals = match Signals::take_over() {
+        Ok(signals) => signals,
+        Err(error) => {
+            eprintln!("nvmed-host: signals cannot be taken: {error}");
+            return FAILED;
+        }
+    };
+    let log = match Log::start(LevelFilter::INFO) {
+        Ok(log) => log,
+        Err(error) => {
+            eprintln!("nvmed-host: {error}");
+            return FAILED;
+        }
+    };
+    let status = serve(path, counting, &signals);
+    log.flush(LAST_LINES);
+    status
+}
+
+fn serve(path: &Path, counting: bool, signals: &Signals) -> u8 {
+    if let Some(warning) = nvmed::LIBRARY.warning() {
+        tracing::warn!("{warning}");
+    }
+    let config = match Config::read(path) {
+        Ok(config) => config,
+        Err(error) => {
+            tracing::error!("{error}");
+            return FAILED;
+        }
+    };
+    let mut host = match Host::begin(&config, counting) {
+        Ok(host) => host,
+        Err(error) => {
+            tracing::error!("{}: {error}", path.display());
+            return FAILED;
+        }
+    };
+    host.wait(signals);
+    match host.end() {
+        Outcome::Good => ENDED,
+        Outcome::DriveFailed => DRIVE_FAILED,
+    }
+}

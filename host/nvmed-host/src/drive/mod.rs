@@ -3,6 +3,12 @@
 //! The lanes' rings, lists and data lie in the [`Window`](crate::memory::Window). The mediator writes and reads them; the mediator's thread rings the
 //! doorbells here. No call waits for a controller but those that open one: what takes long goes on in threads of the drive's own.
 
+pub mod entry;
+pub mod nvme;
+pub mod prp;
+pub mod qtest;
+pub mod ram;
+
 use std::os::fd::BorrowedFd;
 
 /// Host addresses that a drive can reach: from `from` on, below `to`.
@@ -76,6 +82,11 @@ pub trait Drive: Send {
 
     /// Takes what made [`Drive::wake`] readable.
     fn woken(&mut self) {}
+
+    /// How a drive that hangs is dealt with, where it can be.
+    fn recover(&mut self) -> Option<&mut dyn nvme::Recover> {
+        None
+    }
 
     /// One line on the drive, for the operator.
     fn describe(&self) -> String;

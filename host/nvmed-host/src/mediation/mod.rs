@@ -1,1 +1,436 @@
-//! To be written.
+//! The mediator's thread: it has the mediator and the drive, and carries out what guests ask for.
+//!
+//! It never waits for a guest, its process or the drive. Guests' threads ask by bounded queues ([`mailbox`]), doorbells come by these or by pages of memory, and
+//! answers are words of memory ([`outbox`]). It sleeps where nothing is due, on a descriptor of its own and on the drive's.
+
+#![forbid(unsafe_code)]
+
+pub mod client;
+pub mod failing;
+pub mod lanes;
+pub mod mailbox;
+pub mod outbox;
+pub mod pace;
+pub mod side;
+pub mod wake;
+
+use std::os::fd::AsFd;
+use std::sync::atomic::{AtomicBool, Ordering};
+use std::sync::Arc;
+use std::time::{Duration, Instant};
+
+use nix::poll::{ppoll, PollFd, PollFlags};
+use nix::sys::prctl;
+use nix::sys::time::TimeSpec;
+use nvmed::WorkEnd;
+
+use crate::drive::{Budget, Drive, DriveError};
+use crate::interrupts::Signals;
+use crate::memory::Window;
+use client::Client;
+use failing::{Disk, Failure, Stopped, SILENCE};
+use lanes::Lanes;
+use pace::{Pace, Waiting, TICK};
+use side::{Of, Side};
+use wake::Bell;
+
+/// Events of one call of the mediator.
+const EVENTS: u64 = 64;
+/// After so long guests' accesses are looked at again.
+const SLICE: Duration = Duration::from_millis(2);
+/// What a simulated drive may do before the others are looked at.
+const BUDGET: Budget = Budget {
+    commands: 64,
+    bytes: 1 << 20,
+};
+/// How late a timer of this thread may be, in nanoseconds.
+const SLACK: u64 = 1_000;
+
+/// A guest's ends of its queues.
+pub struct Post {
+    /// What it asks for.
+    pub mailbox: mailbox::Receiver,
+    /// What it is told.
+    pub outbox: Arc<outbox::Outbox>,
+    /// Its interrupts.
+    pub signals: Arc<Signals>,
+    /// What its version register says.
+    pub version: u32,
+}
+
+/// What the mediator's thread is made from.
+pub struct Parts<S: Side> {
+    /// The mediator.
+    pub side: S,
+    /// How many lanes it has.
+    pub lanes: usize,
+    /// The memory in which the lanes' rings lie.
+    pub window: Arc<Window>,
+    /// The drive, whose lanes have not been created yet.
+    pub drive: Box<dyn Drive>,
+    /// The guests, in their order.
+    pub posts: Vec<Post>,
+    /// The thread's bell, which the mailboxes ring.
+    pub bell: Arc<Bell>,
+    /// For so long after its last event the thread goes on without a pause, where that helps.
+    pub spin: Duration,
+    /// What each second is counted for, if it is.
+    pub counts: Option<Box<dyn Counts>>,
+}
+
+/// Counts what the drive is given.
+pub trait Counts: Send {
+    /// An entry of a guest.
+    fn note(&mut self, guest: usize, entry: &[u8; lanes::ENTRY]);
+    /// A second is over.
+    fn tick(&mut self);
+}
+
+/// How the thread ended.
+pub enum End {
+    /// It was asked to. The drive is to be closed.
+    Stopped(Option<Box<dyn Drive>>),
+    /// The drive has failed, and guests were answered.
+    DriveFailed,
+}
+
+/// Asks the mediator's thread to end.
+#[derive(Clone, Debug)]
+pub struct Stop {
+    asked: Arc<AtomicBool>,
+    bell: Arc<Bell>,
+}
+
+impl Stop {
+    /// Asks it.
+    pub fn ask(&self) {
+        self.asked.store(true, Ordering::SeqCst);
+        self.bell.ring();
+    }
+}
+
+/// The mediator, the drive, and the guests as they are asked for.
+pub struct Mediation<S: Side> {
+    side: S,
+    lanes: Lanes,
+    disk: Disk,
+    clients: Vec<Client>,
+    bell: Arc<Bell>,
+    stop: Arc<AtomicBool>,
+    counts: Option<Box<dyn Counts>>,
+    pace: Pace,
+    /// More is due at once.
+    due: bool,
+    /// Of a lane more may be due.
+    busy: bool,
+    /// When the drive was checked last.
+    ticked: Instant,
+    /// Faults of memory that were told.
+    faults: u32,
+}
+
+impl<S: Side> Mediation<S> {
+    /// Creates the drive's queues. It may wait for the drive.
+    ///
+    /// # Errors
+    ///
+    /// Those of the drive. It is closed then.
+    pub fn new(mut parts: Parts<S>) -> Result<Self, DriveError> {
+        let now = Instant::now();
+        let lanes = Lanes::new(&mut parts.side, parts.lanes, parts.posts.len(), parts.window, now);
+        if let Err(error) = parts.drive.create_lanes(&lanes.rings()) {
+            // the first error is the one that counts
+            let _second = parts.drive.close();
+            return Err(error);
+        }
+        let clients = (0..).zip(parts.posts);
+        Ok(Self {
+            side: parts.side,
+            lanes,
+            disk: Disk::Good(parts.drive),
+            clients: clients.map(|(number, post)| Client::new(number, post)).collect(),
+            bell: parts.bell,
+            stop: Arc::new(AtomicBool::new(false)),
+            counts: parts.counts,
+            pace: Pace::new(parts.spin, now),
+            due: false,
+            busy: false,
+            ticked: now,
+            faults: crate::memory::fault::all(),
+        })
+    }
+
+    /// What asks the thread to end.
+    #[must_use]
+    pub fn stop(&self) -> Stop {
+        Stop {
+            asked: Arc::clone(&self.stop),
+            bell: Arc::clone(&self.bell),
+        }
+    }
+
+    /// Until the thread is asked to end, or the drive has failed and guests were answered.
+    pub fn run(mut self) -> End {
+        // where that is refused timers are later, and nothing else
+        let _late = prctl::set_timerslack(SLACK);
+        loop {
+            if self.stop.load(Ordering::SeqCst) {
+                return End::Stopped(match self.disk {
+                    Disk::Good(drive) => Some(drive),
+                    _ => None,
+                });
+            }
+            let now = Instant::now();
+            self.turn(now);
+            if self.disk.is_over(now) {
+                return End::DriveFailed;
+            }
+            self.rest(now);
+        }
+    }
+
+    /// Carries out what guests ask for, and what is due, for some milliseconds at most.
+    fn turn(&mut self, now: Instant) {
+        let sent = self.lanes.sent();
+        let stirred = self.listen();
+        let result = if stirred || self.due || self.lanes.are_flying() {
+            self.work(now)
+        } else {
+            Ok(false)
+        };
+        let result = result.and_then(|worked| {
+            if stirred || worked {
+                let end = if worked { Instant::now() } else { now };
+                self.pace.note(now, end, self.lanes.sent().wrapping_sub(sent));
+            }
+            self.tick(now)
+        });
+        if let Err(failure) = result {
+            self.give_up(&failure, now);
+        }
+        self.look_at_failed(now);
+        self.note_ends();
+        self.note_faults();
+    }
+
+    /// What guests ask for. Whether there was something.
+    fn listen(&mut self) -> bool {
+        let mut any = false;
+        for client in &mut self.clients {
+            any |= client.listen(&mut self.side, &self.lanes, self.busy);
+        }
+        any
+    }
+
+    /// Carries out what is due, until nothing is or the slice is over. Whether something was done.
+    fn work(&mut self, begin: Instant) -> Result<bool, Failure> {
+        let mut any = false;
+        loop {
+            let done = self.pass(begin)?;
+            any |= done;
+            self.due = done;
+            if !done || begin.elapsed() >= SLICE {
+                return Ok(any);
+            }
+        }
+    }
+
+    /// Each guest gets a piece of work, then the drive, then each lane.
+    fn pass(&mut self, now: Instant) -> Result<bool, Failure> {
+        let guests = self.work_guests()?;
+        let (drive, more) = self.work_drive(now)?;
+        let lanes = self.work_lanes(now)?;
+        if lanes {
+            self.ring(now)?;
+        }
+        for client in &mut self.clients {
+            if lanes {
+                client.note_room();
+            }
+            client.tell(&mut self.side, guests || lanes);
+        }
+        Ok(guests || drive || more || lanes)
+    }
+
+    fn work_guests(&mut self) -> Result<bool, Failure> {
+        let mut any = false;
+        for client in &mut self.clients {
+            if !client.is_due() {
+                continue;
+            }
+            let guest = client.number();
+            let worked = self.side.work(Of::Guest(guest), EVENTS);
+            if worked.done != 0 {
+                any = true;
+                let counts = &mut self.counts;
+                self.lanes.note_sent(&mut self.side, guest, &mut |entry| {
+                    if let Some(counts) = counts {
+                        counts.note(guest, entry);
+                    }
+                });
+            }
+            // where there was no memory for what is left it is tried again, with the next event or second
+            client.note_worked(worked.done >= EVENTS || worked.end == WorkEnd::OutOfMemory);
+            if worked.end == WorkEnd::Stray {
+                return Err(Failure::Stray(0));
+            }
+        }
+        Ok(any)
+    }
+
+    fn ring(&mut self, now: Instant) -> Result<(), Failure> {
+        match self.disk.good() {
+            Some(drive) => Ok(self.lanes.ring(drive, now)?),
+            None => Ok(()),
+        }
+    }
+
+    /// The drive gets its doorbells, and does its part where it is simulated. Whether it did something, and whether there is more.
+    fn work_drive(&mut self, now: Instant) -> Result<(bool, bool), Failure> {
+        let Some(drive) = self.disk.good() else {
+            return Ok((false, false));
+        };
+        self.lanes.ring(drive, now)?;
+        if !self.lanes.are_flying() {
+            return Ok((false, false));
+        }
+        let progress = drive.work(BUDGET)?;
+        Ok((progress.completed != 0, progress.more))
+    }
+
+    fn work_lanes(&mut self, now: Instant) -> Result<bool, Failure> {
+        let mut any = false;
+        self.busy = false;
+        for lane in 0..self.lanes.len() {
+            let worked = self.side.work(Of::Lane(lane), EVENTS);
+            if worked.done != 0 {
+                any = true;
+                self.lanes.note_answered(&mut self.side, lane, now);
+            }
+            self.busy |= worked.done >= EVENTS;
+            if worked.end == WorkEnd::Stray && self.disk.good().is_some() {
+                return Err(Failure::Stray(lane));
+            }
+        }
+        Ok(any)
+    }
+
+    /// Once a second the drive is looked at.
+    fn tick(&mut self, now: Instant) -> Result<(), Failure> {
+        if now.saturating_duration_since(self.ticked) < TICK {
+            return Ok(());
+        }
+        self.ticked = now;
+        if let Some(counts) = &mut self.counts {
+            counts.tick();
+        }
+        // what there was no memory for is tried again
+        self.due = true;
+        let Some(drive) = self.disk.good() else { return Ok(()) };
+        drive.check()?;
+        match self.lanes.silent(now, SILENCE) {
+            Some(lane) => Err(Failure::Silent(lane)),
+            None => Ok(()),
+        }
+    }
+
+    /// The drive cannot be relied on any more: it is stopped, in a thread of its own.
+    fn give_up(&mut self, failure: &Failure, now: Instant) {
+        if self.disk.good().is_some() {
+            tracing::error!("the drive: {failure}");
+            self.disk.stop(now);
+        }
+    }
+
+    /// Once it has stopped, what it had ends with an error.
+    fn look_at_failed(&mut self, now: Instant) {
+        if let Stopped::Now(words) = self.disk.look(now) {
+            if let Some(words) = words {
+                tracing::error!("the drive: {words}");
+            }
+            for lane in 0..self.lanes.len() {
+                self.side.close_lane(lane);
+            }
+            self.lanes.forget();
+            for client in &mut self.clients {
+                client.note_room();
+            }
+            self.due = true;
+        }
+    }
+
+    fn note_ends(&mut self) {
+        for client in &mut self.clients {
+            client.note_end(&mut self.side);
+        }
+    }
+
+    /// An access of a guest's memory has met a file that was cut off: each guest's thread looks whether it was its own.
+    fn note_faults(&mut self) {
+        let faults = crate::memory::fault::all();
+        if faults != self.faults {
+            self.faults = faults;
+            for client in &self.clients {
+                client.outbox().cut_off();
+            }
+        }
+    }
+
+    /// Waits until there is something to do.
+    fn rest(&mut self, now: Instant) {
+        let pause = self.pause(now);
+        if pause.is_zero() {
+            std::hint::spin_loop();
+            return;
+        }
+        self.bell.lie_down();
+        if self.clients.iter().any(Client::has_mail) || self.stop.load(Ordering::SeqCst) {
+            self.bell.get_up();
+            return;
+        }
+        if self.sleep(pause) {
+            if let Some(drive) = self.disk.good() {
+                drive.woken();
+            }
+        }
+        self.bell.get_up();
+    }
+
+    /// Sleeps, but no longer than that. Whether the drive's descriptor is readable.
+    fn sleep(&mut self, pause: Duration) -> bool {
+        let wake = match &self.disk {
+            Disk::Good(drive) => drive.wake(),
+            _ => None,
+        };
+        let bell = self.bell.fd();
+        let mut fds = [
+            PollFd::new(bell.as_fd(), PollFlags::POLLIN),
+            PollFd::new(wake.unwrap_or(bell), PollFlags::POLLIN),
+        ];
+        // an interruption by a signal is a turn more
+        let _woken = ppoll(&mut fds, Some(TimeSpec::from_duration(pause)), None);
+        wake.is_some() && fds.get(1).and_then(|fd| fd.any()).unwrap_or(false)
+    }
+
+    fn pause(&self, now: Instant) -> Duration {
+        let (wakes, stopping) = match &self.disk {
+            Disk::Good(drive) => (drive.wake().is_some(), false),
+            Disk::Stopping(..) => (true, true),
+            Disk::Gone(_) => (true, true),
+        };
+        let waiting = Waiting {
+            due: self.due || self.clients.iter().any(Client::has_more),
+            polled: self.lanes.are_flying() && !wakes,
+            looked: self.clients.iter().any(Client::is_looked_at),
+        };
+        let pause = self.pace.longest(waiting, now);
+        if stopping {
+            pause.min(Duration::from_millis(20))
+        } else {
+            pause
+        }
+    }
+}
+
+#[cfg(test)]
+mod tests;

@@ -1,0 +1,84 @@
+#![forbid(unsafe_code)]
+//! The window as drives use it.
+
+use std::sync::atomic::Ordering;
+
+use vm_memory::{Bytes, VolatileSlice};
+
+use crate::drive::DriveError;
+use crate::memory::{Piece, Window};
+
+/// Bytes of a page.
+pub const PAGE: u64 = 4096;
+
+/// Memory that a drive shares with mediator and guests, by host address. Others write it at any time, so each byte is read once.
+pub trait DriveMemory: Send + Sync {
+    /// The `len` bytes from a host address on, or `None` where not all of them have memory.
+    fn slice(&self, host: u64, len: usize) -> Option<VolatileSlice<'_>>;
+
+    /// Where there is memory. All of it stays, as long as the drive is open.
+    fn pieces(&self) -> Vec<Piece>;
+
+    /// Where host address 0 lies in this process.
+    fn base(&self) -> *mut u8;
+}
+
+impl DriveMemory for Window {
+    fn slice(&self, host: u64, len: usize) -> Option<VolatileSlice<'_>> {
+        Window::slice(self, host, len)
+    }
+
+    fn pieces(&self) -> Vec<Piece> {
+        Window::pieces(self)
+    }
+
+    fn base(&self) -> *mut u8 {
+        Window::base(self)
+    }
+}
+
+/// Whether `len` bytes from `host` on have memory.
+pub fn is_there(memory: &dyn DriveMemory, host: u64, len: u64) -> bool {
+    usize::try_from(len).is_ok_and(|len| memory.slice(host, len).is_some())
+}
+
+fn outside(host: u64) -> DriveError {
+    DriveError::Failed(format!("host address {host:#x} is not in the window"))
+}
+
+/// Copies bytes from the window.
+pub fn load(memory: &dyn DriveMemory, host: u64, to: &mut [u8]) -> Result<(), DriveError> {
+    let slice = memory.slice(host, to.len()).ok_or_else(|| outside(host))?;
+    slice.read_slice(to, 0).map_err(|_| outside(host))
+}
+
+/// Copies bytes into the window.
+pub fn store(memory: &dyn DriveMemory, host: u64, from: &[u8]) -> Result<(), DriveError> {
+    let slice = memory.slice(host, from.len()).ok_or_else(|| outside(host))?;
+    slice.write_slice(from, 0).map_err(|_| outside(host))
+}
+
+/// Clears bytes of the window.
+pub fn clear(memory: &dyn DriveMemory, host: u64, len: u64) -> Result<(), DriveError> {
+    let zeros = [0u8; 4096];
+    let mut at = 0;
+    while at < len {
+        let count = (len - at).min(PAGE);
+        let part = zeros.get(..count as usize).unwrap_or(&zeros);
+        store(memory, host.checked_add(at).ok_or_else(|| outside(host))?, part)?;
+        at += count;
+    }
+    Ok(())
+}
+
+/// Reads an aligned dword at once; what is read after it was not written before it.
+pub fn load32(memory: &dyn DriveMemory, host: u64) -> Result<u32, DriveError> {
+    let slice = memory.slice(host, 4).ok_or_else(|| outside(host))?;
+    slice.load::<u32>(0, Ordering::Acquire).map(u32::from_le).map_err(|_| outside(host))
+}
+
+/// Writes an aligned dword at once, after all that was stored before.
+pub fn store32(memory: &dyn DriveMemory, host: u64, value: u32) -> Result<(), DriveError> {
+    let slice = memory.slice(host, 4).ok_or_else(|| outside(host))?;
+    slice.store(value.to_le(), 0, Ordering::Release).map_err(|_| outside(host))
+}

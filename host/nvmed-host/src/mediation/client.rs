@@ -1,0 +1,238 @@
+//! A guest, as the mediator's thread has it: what it asks for, its doorbell page, and what it is to be told.
+
+#![forbid(unsafe_code)]
+
+use std::sync::Arc;
+
+use super::lanes::Lanes;
+use super::mailbox::{Access, Receiver};
+use super::outbox::Outbox;
+use super::Post;
+use super::side::Side;
+use crate::doorbells::Page;
+use crate::interrupts::Signals;
+use crate::pci::Registers;
+
+/// Accesses of one guest that are carried out before the next guest's.
+const PIECE: u32 = 64;
+
+// NVMe Base, "Controller Properties".
+const CC: u32 = 0x14;
+const CSTS: u32 = 0x1c;
+const CC_ENABLE: u32 = 1;
+const CSTS_READY: u32 = 1;
+/// The first doorbell's offset in BAR0.
+const DOORBELLS: u32 = 0x1000;
+
+/// A guest.
+pub struct Client {
+    number: usize,
+    mailbox: Receiver,
+    outbox: Arc<Outbox>,
+    signals: Arc<Signals>,
+    registers: Registers,
+    page: Option<Arc<Page>>,
+    /// CC.EN.
+    enabled: bool,
+    /// Bus Master Enable.
+    master: bool,
+    connected: bool,
+    /// The connection is over, and its commands have not run out yet.
+    ending: bool,
+    /// Something of the guest may be due.
+    due: bool,
+    /// Something may have changed of its interrupts.
+    stirred: bool,
+    /// More accesses wait than were carried out.
+    more: bool,
+}
+
+impl Client {
+    /// Guest `number`, to which nobody is connected.
+    pub fn new(number: usize, post: Post) -> Self {
+        Self {
+            number,
+            mailbox: post.mailbox,
+            outbox: post.outbox,
+            signals: post.signals,
+            registers: Registers::new(post.version),
+            page: None,
+            enabled: false,
+            master: false,
+            connected: false,
+            ending: false,
+            due: false,
+            stirred: false,
+            more: false,
+        }
+    }
+
+    /// Its number.
+    pub fn number(&self) -> usize {
+        self.number
+    }
+
+    /// What its thread is told by.
+    pub fn outbox(&self) -> &Outbox {
+        &self.outbox
+    }
+
+    /// Whether its doorbell page has to be looked at.
+    pub fn is_looked_at(&self) -> bool {
+        self.page.is_some() && self.enabled
+    }
+
+    /// Whether accesses wait.
+    pub fn has_mail(&self) -> bool {
+        !self.mailbox.is_empty()
+    }
+
+    /// Whether what is due of the guest may be done. Without Bus Master Enable nothing is fetched for an enabled controller. A controller that was reset fetches
+    /// nothing any more, but what it had runs out.
+    pub fn may_work(&self) -> bool {
+        self.master || !self.enabled
+    }
+
+    /// Whether something of it may be due, and may be done.
+    pub fn is_due(&self) -> bool {
+        self.due && self.may_work()
+    }
+
+    /// What is due was done, or at least a part of it.
+    pub fn note_worked(&mut self, more: bool) {
+        self.due = more;
+    }
+
+    /// Tags have become free, or a completion queue has room.
+    pub fn note_room(&mut self) {
+        self.due |= self.enabled || self.ending;
+    }
+
+    /// Carries out accesses: the doorbell page's and the mailbox's. Whether there were some.
+    pub fn listen(&mut self, side: &mut dyn Side, lanes: &Lanes, busy: bool) -> bool {
+        let mut any = self.enabled && self.look(side);
+        self.more = false;
+        for _ in 0..PIECE {
+            let Some(access) = self.mailbox.take() else {
+                return any;
+            };
+            any = true;
+            self.carry_out(access, side, lanes, busy);
+        }
+        self.more = self.has_mail();
+        any
+    }
+
+    /// Whether [`Client::listen`] left accesses.
+    pub fn has_more(&self) -> bool {
+        self.more
+    }
+
+    /// Takes the values of the doorbell page. Whether there were some.
+    fn look(&mut self, side: &mut dyn Side) -> bool {
+        let Some(page) = &self.page else { return false };
+        let mut any = false;
+        for (offset, value) in page.take() {
+            any = true;
+            side.doorbell(self.number, offset, value);
+        }
+        if any {
+            self.due = true;
+            self.stirred = true;
+        }
+        any
+    }
+
+    fn carry_out(&mut self, access: Access, side: &mut dyn Side, lanes: &Lanes, busy: bool) {
+        match access {
+            Access::Connect => self.connect(side),
+            Access::Disconnect => {
+                self.reset(side);
+                self.page = None;
+                self.master = false;
+                self.connected = false;
+                self.ending = true;
+            }
+            Access::Reset => self.reset(side),
+            Access::Master(on) => {
+                self.master = on;
+                self.due = true;
+            }
+            Access::Write { offset, value } => self.write(side, offset, value),
+            Access::Doorbell { offset, value } => {
+                // what the page has is older, since a client that sends messages stores nothing meanwhile
+                self.look(side);
+                side.doorbell(self.number, offset, value);
+                self.due = true;
+                self.stirred = true;
+            }
+            Access::Read { offset } => {
+                let value = self.read(side, offset, lanes, busy);
+                self.mailbox.answer(value);
+            }
+        }
+    }
+
+    fn connect(&mut self, side: &mut dyn Side) {
+        self.page = self.mailbox.page();
+        self.registers.reset();
+        self.master = false;
+        self.connected = true;
+        self.ending = false;
+        // what was posted for the client before is nothing to this one
+        side.posted(self.number);
+    }
+
+    /// The controller is disabled. What it had runs out, and nothing is fetched any more.
+    fn reset(&mut self, side: &mut dyn Side) {
+        self.write(side, CC, 0);
+        self.registers.reset();
+    }
+
+    /// A shutdown is complete once nothing of the guest is outstanding, neither in the mediator nor in the drive.
+    fn read(&mut self, side: &mut dyn Side, offset: u32, lanes: &Lanes, busy: bool) -> u32 {
+        if self.registers.is_shutting() && !(busy || self.is_due() || lanes.have(self.number)) {
+            self.registers.note_idle();
+        }
+        self.registers.shown(offset, side.read(self.number, offset))
+    }
+
+    /// A doorbell that was rung before a write of CC is carried out before it.
+    fn write(&mut self, side: &mut dyn Side, offset: u32, value: u32) {
+        if offset >= DOORBELLS {
+            return;
+        }
+        if offset == CC {
+            self.look(side);
+        }
+        self.registers.note_write(offset, value);
+        side.write(self.number, offset, value);
+        if offset == CC {
+            self.enabled = side.read(self.number, CC) & CC_ENABLE != 0;
+        }
+        self.due = true;
+    }
+
+    /// Tells its thread which vectors are to be signalled. `all`: completions may have been posted for any guest.
+    pub fn tell(&mut self, side: &mut dyn Side, all: bool) {
+        if !self.connected || !(all || self.stirred) {
+            return;
+        }
+        self.stirred = false;
+        let posted = side.posted(self.number);
+        self.signals.publish(posted, side.pending(self.number));
+    }
+
+    /// Tells its thread where its connection is over, and its commands have run out. The mediator shows a controller that was reset as ready until then.
+    pub fn note_end(&mut self, side: &mut dyn Side) {
+        if self.ending && side.read(self.number, CSTS) & CSTS_READY == 0 {
+            self.ending = false;
+            self.outbox.run_out();
+        }
+    }
+
+    /// Whether commands of a connection that is over have not run out yet.
+    pub fn is_ending(&self) -> bool {
+        self.ending
+    }
+}
