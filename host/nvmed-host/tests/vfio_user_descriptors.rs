@@ -67,8 +67,9 @@ fn hoarded() {
         turn(&mut connection, &mut state, PollTimeout::ZERO).unwrap();
     }
     assert!((9..=32).contains(&(open_descriptors() - before)));
+    // the socket and the device's page go, too
     drop(connection);
-    assert_eq!(open_descriptors(), before - 1);
+    assert_eq!(open_descriptors(), before - 2);
 }
 
 /// Vectors that are set again and again, or taken away: those that there were are closed.
