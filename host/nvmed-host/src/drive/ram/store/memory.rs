@@ -276,7 +276,8 @@ mod tests {
             state = state.wrapping_mul(6_364_136_223_846_793_005).wrapping_add(1);
             (state >> 33) % below
         };
-        for round in 0..4000u64 {
+        let zeros = vec![0; bytes as usize];
+        for round in 0..2000u64 {
             let at = random(bytes / 512) * 512;
             let length = (random(if round % 9 == 0 { 5000 } else { 40 }) + 1).min((bytes - at) / 512) * 512;
             let range = at as usize..(at + length) as usize;
@@ -291,9 +292,9 @@ mod tests {
             }
             let from = random(bytes / 512) * 512;
             let data = store.next_data(from, bytes);
-            assert!(
-                (from..=bytes).contains(&data) && model[from as usize..data as usize].iter().all(|byte| *byte == 0)
-            );
+            assert!((from..=bytes).contains(&data));
+            let without = from as usize..data as usize;
+            assert!(model[without.clone()] == zeros[without]);
             let length = (random(60) + 1).min((bytes - from) / 512) * 512;
             assert!(content(&store, from, length as usize) == model[from as usize..(from + length) as usize]);
         }
