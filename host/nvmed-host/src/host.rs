@@ -240,7 +240,10 @@ impl Host {
         let end = Instant::now() + BEGIN_WAIT;
         for _ in 0..config.guests.len() {
             let error = loop {
-                match self.reports.recv_timeout(end.saturating_duration_since(Instant::now())) {
+                match self
+                    .reports
+                    .recv_timeout(end.saturating_duration_since(Instant::now()))
+                {
                     Ok(Report::Begun(_, Ok(()))) => break None,
                     Ok(Report::Begun(guest, Err(error))) => {
                         let line = config.guests.get(guest).map_or(0, |g| g.lines.connection);

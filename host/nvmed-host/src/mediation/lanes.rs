@@ -78,9 +78,7 @@ impl Lane {
 impl Lanes {
     /// The lanes of a mediator with so many guests.
     pub fn new(side: &mut dyn Side, lanes: usize, guests: usize, window: Arc<Window>, now: Instant) -> Self {
-        let lanes = (0..lanes)
-            .map_while(|lane| side.rings(lane))
-            .map(|rings| Lane::new(rings, now));
+        let lanes = (0..lanes).map_while(|lane| side.rings(lane)).map(|rings| Lane::new(rings, now));
         Self {
             lanes: lanes.collect(),
             window,
@@ -138,12 +136,7 @@ impl Lanes {
             let at = u64::from((lane.head + i) % entries) * COMPLETION as u64;
             let mut identifier = [0; 2];
             read(&self.window, lane.at.completion + at + IDENTIFIER, &mut identifier);
-            give(
-                &mut lane.owners,
-                &mut self.counts,
-                usize::from(u16::from_le_bytes(identifier)) % IDENTIFIERS,
-                0,
-            );
+            give(&mut lane.owners, &mut self.counts, usize::from(u16::from_le_bytes(identifier)) % IDENTIFIERS, 0);
         }
         if answered != 0 {
             lane.head = rings.head;
@@ -222,20 +215,12 @@ fn read(window: &Window, host: u64, into: &mut [u8]) {
 
 /// The command of that identifier is `owner`'s from now on.
 fn give(owners: &mut [u8; IDENTIFIERS], counts: &mut [u32], identifier: usize, owner: u8) {
-    let Some(place) = owners.get_mut(identifier) else {
-        return;
-    };
+    let Some(place) = owners.get_mut(identifier) else { return };
     let before = std::mem::replace(place, owner);
-    if let Some(count) = usize::from(before)
-        .checked_sub(1)
-        .and_then(|guest| counts.get_mut(guest))
-    {
+    if let Some(count) = usize::from(before).checked_sub(1).and_then(|guest| counts.get_mut(guest)) {
         *count = count.saturating_sub(1);
     }
-    if let Some(count) = usize::from(owner)
-        .checked_sub(1)
-        .and_then(|guest| counts.get_mut(guest))
-    {
+    if let Some(count) = usize::from(owner).checked_sub(1).and_then(|guest| counts.get_mut(guest)) {
         *count += 1;
     }
 }

@@ -24,7 +24,7 @@ mod tests;
 
 pub use access::{Access, Capabilities};
 pub use admin::{ADMIN_BYTES, ADMIN_WAIT};
-pub use controller::{Controller, Found, Needs, ABORT_AFTER, MOST_LANES, RESETS, RESET_AFTER, SHUTDOWN_WAIT, TRANSFER};
+pub use controller::{Controller, Found, Needs, ABORT_AFTER, MOST_LANES, RESET_AFTER, RESETS, SHUTDOWN_WAIT, TRANSFER};
 pub use event::Event;
 pub use memory::DriveMemory;
 
