@@ -16,7 +16,9 @@ use nvmed::Mediator;
 use vm_memory::VolatileSlice;
 
 use crate::config::{Config, Connection, Doorbells, DriveConfig, GuestConfig, Interrupts, BLOCK};
+use crate::drive::nvme::{DriveMemory, Needs};
 use crate::drive::prp::SharedMemory;
+use crate::drive::qtest::QtestDrive;
 use crate::drive::ram::RamDrive;
 use crate::drive::{Drive, DriveError};
 use crate::guest::function::Function;
@@ -28,7 +30,7 @@ use crate::mediation::outbox::Outbox;
 use crate::mediation::side::Library;
 use crate::mediation::wake::Bell;
 use crate::mediation::{self, Counts, End, Mediation, Post, Stop};
-use crate::memory::{FileError, GuestFile, GuestMemory, MemoryError, Trust, Window};
+use crate::memory::{FileError, GuestFile, GuestMemory, MemoryError, Piece, Trust, Window};
 use crate::process::{Listener, ProcessError, STOP_WAIT};
 use crate::signals::Signals;
 use crate::statistics::{Owners, Statistics, ENTRY_BYTES};
@@ -131,6 +133,26 @@ pub struct Host {
 impl SharedMemory for Window {
     fn slice(&self, host: u64, len: usize) -> Option<VolatileSlice<'_>> {
         Window::slice(self, host, len)
+    }
+}
+
+/// What a real drive may reach of the window.
+struct Reached {
+    window: Arc<Window>,
+    pieces: Vec<Piece>,
+}
+
+impl DriveMemory for Reached {
+    fn slice(&self, host: u64, len: usize) -> Option<VolatileSlice<'_>> {
+        self.window.slice(host, len)
+    }
+
+    fn pieces(&self) -> Vec<Piece> {
+        self.pieces.clone()
+    }
+
+    fn base(&self) -> *mut u8 {
+        self.window.base()
     }
 }
 
@@ -240,10 +262,7 @@ impl Host {
         let end = Instant::now() + BEGIN_WAIT;
         for _ in 0..config.guests.len() {
             let error = loop {
-                match self
-                    .reports
-                    .recv_timeout(end.saturating_duration_since(Instant::now()))
-                {
+                match self.reports.recv_timeout(end.saturating_duration_since(Instant::now())) {
                     Ok(Report::Begun(_, Ok(()))) => break None,
                     Ok(Report::Begun(guest, Err(error))) => {
                         let line = config.guests.get(guest).map_or(0, |g| g.lines.connection);
@@ -442,7 +461,17 @@ fn reaches(_address: &str) -> Result<Vec<crate::drive::Reach>, DriveError> {
     Err(DriveError::Unusable("real drives are not there yet".to_owned()))
 }
 
-fn open_drive(config: &Config, _layout: &Layout, window: &Arc<Window>) -> Result<Box<dyn Drive>, DriveError> {
+fn open_drive(config: &Config, layout: &Layout, window: &Arc<Window>) -> Result<Box<dyn Drive>, DriveError> {
+    let reached = Reached {
+        window: Arc::clone(window),
+        pieces: layout.reached(),
+    };
+    let needs = Needs {
+        admin: layout.admin,
+        blocks: config.blocks(),
+        lanes: config.lanes,
+        interrupts: true,
+    };
     match &config.drive {
         DriveConfig::Ram { bytes, image } => {
             let blocks = bytes / BLOCK;
@@ -452,8 +481,7 @@ fn open_drive(config: &Config, _layout: &Layout, window: &Arc<Window>) -> Result
                 None => Box::new(RamDrive::in_memory(memory, blocks)?),
             })
         }
-        DriveConfig::Qemu { .. } | DriveConfig::Vfio { .. } => {
-            Err(DriveError::Unusable("this kind of drive is not there yet".to_owned()))
-        }
+        DriveConfig::Qemu { socket, .. } => Ok(Box::new(QtestDrive::open(socket, Arc::new(reached), needs)?)),
+        DriveConfig::Vfio { .. } => Err(DriveError::Unusable("this kind of drive is not there yet".to_owned())),
     }
 }

@@ -7,8 +7,8 @@ use std::sync::Arc;
 use super::lanes::Lanes;
 use super::mailbox::{Access, Receiver};
 use super::outbox::Outbox;
-use super::Post;
 use super::side::Side;
+use super::Post;
 use crate::doorbells::Page;
 use crate::interrupts::Signals;
 use crate::pci::Registers;
@@ -45,6 +45,8 @@ pub struct Client {
     stirred: bool,
     /// More accesses wait than were carried out.
     more: bool,
+    /// Commands that came to the drive since [`Client::take_sent`].
+    sent: u64,
 }
 
 impl Client {
@@ -64,6 +66,7 @@ impl Client {
             due: false,
             stirred: false,
             more: false,
+            sent: 0,
         }
     }
 
@@ -98,9 +101,15 @@ impl Client {
         self.due && self.may_work()
     }
 
-    /// What is due was done, or at least a part of it.
-    pub fn note_worked(&mut self, more: bool) {
+    /// What is due was done, or at least a part of it: so many commands came to the drive.
+    pub fn note_worked(&mut self, sent: u64, more: bool) {
+        self.sent += sent;
         self.due = more;
+    }
+
+    /// How many commands came to the drive since this was asked last.
+    pub fn take_sent(&mut self) -> u64 {
+        std::mem::take(&mut self.sent)
     }
 
     /// Tags have become free, or a completion queue has room.

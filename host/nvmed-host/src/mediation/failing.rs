@@ -98,5 +98,7 @@ impl Disk {
 ///
 /// There is no thread to be had; the drive is dropped then.
 pub fn close(drive: Box<dyn Drive>) -> io::Result<JoinHandle<Result<(), DriveError>>> {
-    Builder::new().name("drive-close".to_owned()).spawn(move || drive.close())
+    Builder::new()
+        .name("drive-close".to_owned())
+        .spawn(move || drive.close())
 }

@@ -47,8 +47,6 @@ pub struct Lanes {
     window: Arc<Window>,
     /// Commands that the drive has of each guest.
     counts: Vec<u32>,
-    /// Commands that the drive got so far, modulo 2^64.
-    sent: u64,
 }
 
 /// From one place of a ring to another.
@@ -78,12 +76,13 @@ impl Lane {
 impl Lanes {
     /// The lanes of a mediator with so many guests.
     pub fn new(side: &mut dyn Side, lanes: usize, guests: usize, window: Arc<Window>, now: Instant) -> Self {
-        let lanes = (0..lanes).map_while(|lane| side.rings(lane)).map(|rings| Lane::new(rings, now));
+        let lanes = (0..lanes)
+            .map_while(|lane| side.rings(lane))
+            .map(|rings| Lane::new(rings, now));
         Self {
             lanes: lanes.collect(),
             window,
             counts: vec![0; guests],
-            sent: 0,
         }
     }
 
@@ -105,8 +104,9 @@ impl Lanes {
         self.lanes.iter().map(|lane| lane.at).collect()
     }
 
-    /// Looks for the entries that the work of `guest` has put into the rings, and shows each to `seen`.
-    pub fn note_sent(&mut self, side: &mut dyn Side, guest: usize, seen: &mut dyn FnMut(&[u8; ENTRY])) {
+    /// Looks for the entries that the work of `guest` has put into the rings, and shows each to `seen`. How many there were.
+    pub fn note_sent(&mut self, side: &mut dyn Side, guest: usize, seen: &mut dyn FnMut(&[u8; ENTRY])) -> u64 {
+        let mut sent = 0;
         let owner = u8::try_from(guest + 1).unwrap_or(0);
         for (number, lane) in self.lanes.iter_mut().enumerate() {
             let Some(now) = side.rings(number) else { continue };
@@ -118,11 +118,12 @@ impl Lanes {
                 let identifier = usize::from(u16::from_le_bytes([entry[2], entry[3]])) % IDENTIFIERS;
                 give(&mut lane.owners, &mut self.counts, identifier, owner);
                 lane.flying += 1;
-                self.sent = self.sent.wrapping_add(1);
+                sent += 1;
                 seen(&entry);
             }
             lane.tail = now.tail;
         }
+        sent
     }
 
     /// Looks for the completions that the work of a lane has read. The drive does not write over them before its doorbell is rung.
@@ -136,7 +137,12 @@ impl Lanes {
             let at = u64::from((lane.head + i) % entries) * COMPLETION as u64;
             let mut identifier = [0; 2];
             read(&self.window, lane.at.completion + at + IDENTIFIER, &mut identifier);
-            give(&mut lane.owners, &mut self.counts, usize::from(u16::from_le_bytes(identifier)) % IDENTIFIERS, 0);
+            give(
+                &mut lane.owners,
+                &mut self.counts,
+                usize::from(u16::from_le_bytes(identifier)) % IDENTIFIERS,
+                0,
+            );
         }
         if answered != 0 {
             lane.head = rings.head;
@@ -168,12 +174,6 @@ impl Lanes {
             }
         }
         Ok(())
-    }
-
-    /// Commands that the drive got so far, modulo 2^64.
-    #[must_use]
-    pub fn sent(&self) -> u64 {
-        self.sent
     }
 
     /// Whether the drive has commands.
@@ -215,12 +215,20 @@ fn read(window: &Window, host: u64, into: &mut [u8]) {
 
 /// The command of that identifier is `owner`'s from now on.
 fn give(owners: &mut [u8; IDENTIFIERS], counts: &mut [u32], identifier: usize, owner: u8) {
-    let Some(place) = owners.get_mut(identifier) else { return };
+    let Some(place) = owners.get_mut(identifier) else {
+        return;
+    };
     let before = std::mem::replace(place, owner);
-    if let Some(count) = usize::from(before).checked_sub(1).and_then(|guest| counts.get_mut(guest)) {
+    if let Some(count) = usize::from(before)
+        .checked_sub(1)
+        .and_then(|guest| counts.get_mut(guest))
+    {
         *count = count.saturating_sub(1);
     }
-    if let Some(count) = usize::from(owner).checked_sub(1).and_then(|guest| counts.get_mut(guest)) {
+    if let Some(count) = usize::from(owner)
+        .checked_sub(1)
+        .and_then(|guest| counts.get_mut(guest))
+    {
         *count += 1;
     }
 }

@@ -406,13 +406,7 @@ mod tests {
         while next < 10 * SLOTS {
             match receiver.take() {
                 Some(access) => {
-                    assert_eq!(
-                        access,
-                        Access::Write {
-                            offset: 0,
-                            value: next
-                        }
-                    );
+                    assert_eq!(access, Access::Write { offset: 0, value: next });
                     next += 1;
                 }
                 None => std::thread::yield_now(),

@@ -191,7 +191,6 @@ impl<S: Side> Mediation<S> {
 
     /// Carries out what guests ask for, and what is due, for some milliseconds at most.
     fn turn(&mut self, now: Instant) {
-        let sent = self.lanes.sent();
         let stirred = self.listen();
         let result = if stirred || self.due || self.lanes.are_flying() {
             self.work(now)
@@ -201,7 +200,8 @@ impl<S: Side> Mediation<S> {
         let result = result.and_then(|worked| {
             if stirred || worked {
                 let end = if worked { Instant::now() } else { now };
-                self.pace.note(now, end, self.lanes.sent().wrapping_sub(sent));
+                let sent = self.clients.iter_mut().map(Client::take_sent).max();
+                self.pace.note(now, end, sent.unwrap_or(0));
             }
             self.tick(now)
         });
@@ -260,17 +260,18 @@ impl<S: Side> Mediation<S> {
             }
             let guest = client.number();
             let worked = self.side.work(Of::Guest(guest), EVENTS);
+            let mut sent = 0;
             if worked.done != 0 {
                 any = true;
                 let counts = &mut self.counts;
-                self.lanes.note_sent(&mut self.side, guest, &mut |entry| {
+                sent = self.lanes.note_sent(&mut self.side, guest, &mut |entry| {
                     if let Some(counts) = counts {
                         counts.note(guest, entry);
                     }
                 });
             }
             // where there was no memory for what is left it is tried again, with the next event or second
-            client.note_worked(worked.done >= EVENTS || worked.end == WorkEnd::OutOfMemory);
+            client.note_worked(sent, worked.done >= EVENTS || worked.end == WorkEnd::OutOfMemory);
             if worked.end == WorkEnd::Stray {
                 return Err(Failure::Stray(0));
             }

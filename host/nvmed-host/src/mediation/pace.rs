@@ -1,7 +1,8 @@
 //! How long the mediator's thread waits for something to do.
 //!
-//! A store into a doorbell page wakes nobody, so pages are looked at. How often depends on what the guests do: a guest that is waited for by a program of its own
-//! (one command at a time) is looked at soon, one that has many commands on their way is looked at later, and has more of them done at once.
+//! A store into a doorbell page wakes nobody, so pages are looked at, and each look costs as much as some commands. A guest that waits for each command is looked
+//! at soon. One that has many on their way loses nothing by a later look, which finds more of them, and has fewer interrupts. Which of the two a guest is shows
+//! a late look now and then: it finds one command, or several.
 
 #![forbid(unsafe_code)]
 
@@ -13,14 +14,25 @@ pub const TICK: Duration = Duration::from_secs(1);
 pub const LOOK: Duration = Duration::from_millis(2);
 /// The fastest look at doorbell pages, but for a thread that goes on without a pause.
 const FIRST: Duration = Duration::from_micros(20);
-/// The fastest look, where guests have many commands on their way.
+/// The first look of guests with many commands on their way, and of one that is to show whether they have.
 const DEEP: Duration = Duration::from_micros(240);
+/// The slowest look of such guests.
+const DEEPEST: Duration = Duration::from_millis(1);
+/// After so many looks that found commands a late one is tried.
+const TRIAL: u32 = 32;
+/// The same, where late looks have cost guests commands again and again.
+const LATEST_TRIAL: u32 = 1024;
+/// After so many looks in a row that found one command guests have no more on their way.
+const SINGLE: u32 = 8;
+/// What a command takes is the mean of so many.
+const SAMPLE: u64 = 64;
 /// A drive that has commands and wakes nobody is polled so often.
 const NAP: Duration = Duration::from_micros(50);
 /// A look may be late by one such part of the time for which nothing has happened.
 const PART: u32 = 4;
-/// So many new commands at one look are many.
-const MANY: u64 = 3;
+/// Of a guest with many commands on their way a look is to find so many: fewer than a queue has, so that it never runs dry.
+const FEW: u64 = 3;
+const MANY: u64 = 6;
 
 /// What there is to wait for.
 #[derive(Clone, Copy, Debug, Default)]
@@ -33,17 +45,69 @@ pub struct Waiting {
     pub looked: bool,
 }
 
+/// What guests seem to do.
+#[derive(Clone, Copy, Debug, PartialEq, Eq)]
+enum Depth {
+    /// They wait for each command, or for the last of a few. So many more looks with commands come before a trial.
+    Shallow(u32),
+    /// The next look is late, to find out.
+    Trial,
+    /// They have many on their way. The looks take that long, and so many in a row have found one command.
+    Deep(Duration, u32),
+}
+
 /// What has been done so far, by which the next pause is chosen.
 #[derive(Clone, Copy, Debug)]
 pub struct Pace {
     /// After something was done the thread goes on without a pause for so long at most, where that has helped.
     spin: Duration,
-    /// The fastest look now.
-    floor: Duration,
+    depth: Depth,
+    sample: Sample,
+    /// What a command takes without late looks.
+    shallow: Duration,
+    /// So many looks come before a trial.
+    trial: u32,
     /// The mean time until something is to be done again.
     gap: Duration,
     /// When something was done last.
     moved: Instant,
+}
+
+/// What commands take, as a mean.
+#[derive(Clone, Copy, Debug)]
+struct Sample {
+    begin: Instant,
+    commands: u64,
+}
+
+impl Depth {
+    /// After a look that found so many commands of a guest, at least one. After `trial` more looks there may be a trial.
+    fn after(self, commands: u64, trial: u32) -> Self {
+        match (self, commands) {
+            (Self::Shallow(0), _) => Self::Trial,
+            (Self::Shallow(more), _) => Self::Shallow(more - 1),
+            (Self::Trial, ..=1) => Self::Shallow(trial),
+            (Self::Trial, _) => Self::Deep(DEEP, 0),
+            (Self::Deep(_, SINGLE..), ..=1) => Self::Shallow(trial),
+            (Self::Deep(look, single), ..=1) => Self::Deep((look * 5 / 4).min(DEEPEST), single + 1),
+            (Self::Deep(look, _), MANY..) => Self::Deep((look * 3 / 4).max(FIRST), 0),
+            (Self::Deep(look, _), ..FEW) => Self::Deep((look * 5 / 4).min(DEEPEST), 0),
+            (Self::Deep(look, _), _) => Self::Deep(look, 0),
+        }
+    }
+
+    fn is_deep(self) -> bool {
+        matches!(self, Self::Deep(..))
+    }
+
+    /// The fastest look.
+    fn floor(self) -> Duration {
+        match self {
+            Self::Shallow(_) => FIRST,
+            Self::Trial => DEEP,
+            Self::Deep(look, _) => look,
+        }
+    }
 }
 
 impl Pace {
@@ -52,22 +116,59 @@ impl Pace {
     pub fn new(spin: Duration, now: Instant) -> Self {
         Self {
             spin,
-            floor: FIRST,
+            depth: Depth::Shallow(TRIAL),
+            sample: Sample {
+                begin: now,
+                commands: 0,
+            },
+            shallow: Duration::MAX,
+            trial: TRIAL,
             gap: Duration::ZERO,
             moved: now,
         }
     }
 
-    /// Something was done from `begin` to `end`: so many commands came to the drive.
+    /// Something was done from `begin` to `end`: of a guest so many commands at most came to the drive.
     pub fn note(&mut self, begin: Instant, end: Instant, commands: u64) {
         let gap = begin.saturating_duration_since(self.moved).min(LOOK);
         self.gap = (3 * self.gap + gap) / 4;
         self.moved = end;
-        match commands {
-            0 => {}
-            MANY.. => self.floor = (2 * self.floor).min(DEEP),
-            _ => self.floor = (self.floor / 2).max(FIRST),
+        if commands == 0 {
+            return;
         }
+        let before = self.depth;
+        self.depth = before.after(commands, self.trial);
+        if gap >= LOOK || before.is_deep() != self.depth.is_deep() {
+            // what is compared is what guests get while they are at work
+            self.begin_sample(end);
+            return;
+        }
+        self.sample.commands += commands;
+        if self.sample.commands >= SAMPLE {
+            self.compare(end);
+        }
+    }
+
+    fn begin_sample(&mut self, now: Instant) {
+        self.sample = Sample {
+            begin: now,
+            commands: 0,
+        };
+    }
+
+    /// Late looks that cost guests an eighth of their commands, or more, end.
+    fn compare(&mut self, now: Instant) {
+        let taken = now.saturating_duration_since(self.sample.begin);
+        let each = taken / u32::try_from(self.sample.commands).unwrap_or(u32::MAX);
+        if !self.depth.is_deep() {
+            self.shallow = each;
+        } else if each * 7 / 8 > self.shallow {
+            self.trial = (2 * self.trial).min(LATEST_TRIAL);
+            self.depth = Depth::Shallow(self.trial);
+        } else {
+            self.trial = TRIAL;
+        }
+        self.begin_sample(now);
     }
 
     /// The longest pause. Looks at doorbell pages become slower with the time for which nothing has happened: so the first command after a short rest is not
@@ -75,13 +176,13 @@ impl Pace {
     #[must_use]
     pub fn longest(&self, waiting: Waiting, now: Instant) -> Duration {
         let since = now.saturating_duration_since(self.moved);
-        let spins = since < self.spin && self.gap < self.spin;
+        let spins = since < self.spin && self.gap < self.spin && matches!(self.depth, Depth::Shallow(_));
         if waiting.due || spins && (waiting.looked || waiting.polled) {
             return Duration::ZERO;
         }
         let mut pause = TICK;
         if waiting.looked {
-            pause = (since / PART).clamp(self.floor, LOOK);
+            pause = (since / PART).clamp(self.depth.floor(), LOOK);
         }
         if waiting.polled {
             pause = pause.min(NAP);
@@ -136,10 +237,10 @@ mod tests {
 
     #[test]
     fn it_goes_on_without_a_pause_where_that_helps() {
-        let (pace, now) = after(50, micros(10), 1);
+        let (pace, now) = after(30, micros(10), 1);
         assert_eq!(pace.longest(LOOKED, now + micros(49)), Duration::ZERO);
         assert_eq!(pace.longest(LOOKED, now + micros(50)), FIRST);
-        let (pace, now) = after(50, micros(200), 1);
+        let (pace, now) = after(30, micros(200), 1);
         assert_eq!(pace.longest(LOOKED, now + micros(10)), FIRST);
     }
 
@@ -158,19 +259,72 @@ mod tests {
 
     #[test]
     fn looks_become_slower_with_time() {
-        let (pace, now) = after(50, micros(200), 1);
+        let (pace, now) = after(30, micros(200), 1);
         assert_eq!(pace.longest(LOOKED, now + micros(60)), FIRST);
         assert_eq!(pace.longest(LOOKED, now + micros(400)), micros(100));
         assert_eq!(pace.longest(LOOKED, now + micros(60_000_000)), LOOK);
     }
 
     #[test]
-    fn looks_are_rarer_where_commands_come_in_numbers() {
-        let (mut pace, now) = after(50, micros(200), 8);
-        assert_eq!(pace.longest(LOOKED, now + micros(60)), DEEP);
-        for _ in 0..8 {
+    fn looks_are_rarer_where_guests_have_many_commands_on_their_way() {
+        let (mut pace, now) = after(TRIAL + 1, micros(30), 1);
+        assert_eq!(
+            pace.longest(LOOKED, now),
+            DEEP,
+            "a trial, which is no time to go on without a pause"
+        );
+        pace.note(now, now, 4);
+        assert_eq!(pace.longest(LOOKED, now), DEEP);
+        for _ in 0..20 {
+            pace.note(now, now, 2);
+        }
+        assert_eq!(pace.longest(LOOKED, now), DEEPEST);
+        pace.note(now, now, 20);
+        assert!(pace.longest(LOOKED, now) < DEEPEST);
+        for _ in 0..=SINGLE {
+            assert!(pace.longest(LOOKED, now) >= DEEP);
             pace.note(now, now, 1);
         }
-        assert_eq!(pace.longest(LOOKED, now + micros(60)), FIRST);
+        assert!(pace.longest(LOOKED, now + SPIN) <= FIRST);
+    }
+
+    #[test]
+    fn late_looks_that_cost_commands_end() {
+        let (mut pace, mut now) = after(3 * TRIAL, micros(100), 1);
+        while !pace.depth.is_deep() {
+            now += micros(100);
+            pace.note(now, now, 4);
+        }
+        // four commands at a time, which took 400 microseconds before and take 800 now
+        let mut looks = 0;
+        while pace.depth.is_deep() {
+            now += micros(800);
+            pace.note(now, now, 4);
+            looks += 1;
+            assert!(looks < 50);
+        }
+        assert_eq!(pace.depth, Depth::Shallow(2 * TRIAL));
+    }
+
+    #[test]
+    fn late_looks_that_cost_nothing_go_on() {
+        let (mut pace, mut now) = after(3 * TRIAL, micros(100), 1);
+        for _ in 0..500 {
+            now += micros(400);
+            pace.note(now, now, 4);
+        }
+        assert!(pace.depth.is_deep());
+    }
+
+    #[test]
+    fn a_trial_that_finds_one_command_is_the_last_for_a_while() {
+        let (mut pace, now) = after(TRIAL + 1, micros(200), 1);
+        pace.note(now, now, 1);
+        for _ in 0..TRIAL {
+            assert_eq!(pace.longest(LOOKED, now + micros(60)), FIRST);
+            pace.note(now, now, 1);
+        }
+        pace.note(now, now, 1);
+        assert_eq!(pace.longest(LOOKED, now + micros(60)), DEEP);
     }
 }

@@ -130,7 +130,9 @@ impl<M: HostMemory> Side for Library<M> {
     }
 
     fn pending(&mut self, guest: usize) -> VectorSet {
-        self.mediator.pending(number(guest)).map_or_else(|_none| VectorSet::default(), |v| set(&v))
+        self.mediator
+            .pending(number(guest))
+            .map_or_else(|_none| VectorSet::default(), |v| set(&v))
     }
 
     fn posted(&mut self, guest: usize) -> VectorSet {

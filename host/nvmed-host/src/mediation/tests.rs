@@ -437,14 +437,21 @@ fn fails(manner: Manner, at_least: Duration) {
     while !thread.is_finished() && begin.elapsed() < Duration::from_secs(10) {
         let asked = Instant::now();
         let _value = rig.guests[0].read(0x24);
-        assert!(asked.elapsed() < Duration::from_millis(200), "registers are answered meanwhile");
+        assert!(
+            asked.elapsed() < Duration::from_millis(200),
+            "registers are answered meanwhile"
+        );
         thread::sleep(Duration::from_millis(5));
     }
     assert!(matches!(thread.join().unwrap(), End::DriveFailed), "{manner:?}");
     assert!(begin.elapsed() >= at_least, "guests have a second");
     let state = rig.fake.state();
     assert!(state.closed && state.lanes_closed, "{manner:?}");
-    assert_eq!(state.taken.get(&0).copied().unwrap_or(0), 0, "its commands were answered");
+    assert_eq!(
+        state.taken.get(&0).copied().unwrap_or(0),
+        0,
+        "its commands were answered"
+    );
 }
 
 #[test]

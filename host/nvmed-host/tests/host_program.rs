@@ -1,0 +1,235 @@
+//! The program itself: its words, its statuses, its end, and what it costs while nothing happens.
+#![allow(clippy::unwrap_used, clippy::expect_used, clippy::panic)]
+
+mod client;
+mod guest;
+
+use std::io::Read;
+use std::process::{Child, Command, Output, Stdio};
+use std::time::{Duration, Instant};
+
+use client::hostile::{odd_descriptors, Hostile};
+use client::Client;
+use guest::{configuration, is_real, Folder, Guest};
+use nix::sys::signal::{kill, Signal};
+use nix::unistd::Pid;
+
+/// The program, which ends with this value.
+struct Program(Child);
+
+impl Program {
+    fn start(folder: &Folder, text: &str, words: &[&str]) -> Self {
+        let path = folder.path("configuration");
+        std::fs::write(&path, text).unwrap();
+        let child = Command::new(env!("CARGO_BIN_EXE_nvmed-host"))
+            .args(words)
+            .arg(path)
+            .stdin(Stdio::null())
+            .stdout(Stdio::null())
+            .stderr(Stdio::piped())
+            .spawn()
+            .unwrap();
+        Self(child)
+    }
+
+    fn signal(&self, signal: Signal) {
+        kill(Pid::from_raw(self.0.id() as i32), signal).unwrap();
+    }
+
+    fn status(&mut self) -> i32 {
+        self.0.wait().unwrap().code().unwrap()
+    }
+
+    fn said(&mut self) -> String {
+        let mut text = String::new();
+        self.0.stderr.take().unwrap().read_to_string(&mut text).unwrap();
+        text
+    }
+
+    /// Ticks of processor time, of all threads.
+    fn ticks(&self) -> u64 {
+        let stat = std::fs::read_to_string(format!("/proc/{}/stat", self.0.id())).unwrap();
+        let fields: Vec<&str> = stat.rsplit_once(')').unwrap().1.split_whitespace().collect();
+        fields[11].parse::<u64>().unwrap() + fields[12].parse::<u64>().unwrap()
+    }
+}
+
+impl Drop for Program {
+    fn drop(&mut self) {
+        let _ = self.0.kill();
+        let _ = self.0.wait();
+    }
+}
+
+fn run(words: &[&str]) -> (i32, String, String) {
+    let Output { status, stdout, stderr } = Command::new(env!("CARGO_BIN_EXE_nvmed-host"))
+        .args(words)
+        .output()
+        .unwrap();
+    let text = |bytes| String::from_utf8(bytes).unwrap();
+    (status.code().unwrap(), text(stdout), text(stderr))
+}
+
+fn connect(folder: &Folder, name: &str) -> Guest {
+    let begin = Instant::now();
+    while !folder.path(name).exists() {
+        assert!(begin.elapsed() < Duration::from_secs(10));
+        std::thread::sleep(Duration::from_millis(5));
+    }
+    Guest::connect(&folder.path(name)).unwrap()
+}
+
+#[test]
+fn words_and_statuses() {
+    let (status, said, _) = run(&["--help"]);
+    assert_eq!(status, 0);
+    for line in [
+        "drive ram SIZE [FILE]",
+        "drive qemu",
+        "drive vfio",
+        "lanes N",
+        "spin N",
+        "guest G memory SIZE [FILE]",
+        "extent G BASE BLOCKS",
+        "share G TAGS",
+        "descriptors G N",
+        "version G",
+        "machine G",
+        "trust G",
+        "doorbells G",
+        "interrupts G",
+        "listen G PATH",
+        "start G WORD..",
+    ] {
+        assert!(said.contains(line), "{line}");
+    }
+    let (status, said, _) = run(&["--version"]);
+    assert_eq!(status, 0);
+    assert!(said.starts_with("nvmed-host ") && said.contains("library"), "{said}");
+    for wrong in [&[][..], &["--what"], &["a", "b"], &["check"]] {
+        assert_eq!(run(wrong).0, 2, "{wrong:?}");
+    }
+}
+
+#[test]
+fn a_configuration_is_checked() {
+    let folder = Folder::new("check");
+    let path = folder.path("file");
+    let name = path.to_str().unwrap();
+    std::fs::write(&path, configuration(&folder, 2, "")).unwrap();
+    assert_eq!(run(&["check", name]).0, 0);
+    assert!(!folder.path("g0").exists(), "nothing is started");
+    std::fs::write(&path, "drive ram 1M\nlanes 9\n").unwrap();
+    for words in [&["check", name][..], &[name]] {
+        let (status, _, said) = run(words);
+        assert_eq!(status, 1);
+        assert!(said.contains("line 2"), "{said}");
+    }
+    assert_eq!(run(&["check", "/no/such/file"]).0, 1);
+}
+
+#[test]
+fn a_signal_ends_it_cleanly() {
+    for signal in [Signal::SIGTERM, Signal::SIGINT, Signal::SIGHUP] {
+        let folder = Folder::new(&format!("signal-{signal}"));
+        let image = folder.path("image");
+        let text =
+            configuration(&folder, 1, "").replace("drive ram 16M", &format!("drive ram 16M {}", image.display()));
+        let mut program = Program::start(&folder, &text, &[]);
+        let mut guest = connect(&folder, "g0");
+        if is_real() {
+            guest.bring_up().unwrap();
+            guest.write_blocks(0, 7).unwrap();
+        }
+        program.signal(signal);
+        assert_eq!(program.status(), 0, "{signal}");
+        assert!(!folder.path("g0").exists(), "its socket's path is gone");
+        if is_real() {
+            let mut file = std::fs::File::open(&image).unwrap();
+            let mut bytes = [0; 4096];
+            file.read_exact(&mut bytes).unwrap();
+            assert_eq!(bytes, [7; 4096]);
+        }
+    }
+}
+
+#[test]
+fn it_ends_with_the_guests_that_it_started() {
+    let folder = Folder::new("start");
+    let text = "drive ram 1M\nguest 0 memory 1M\nextent 0 0 8\nstart 0 sh -c \"exit 5\"\n";
+    let mut program = Program::start(&folder, text, &[]);
+    assert_eq!(program.status(), 0);
+    let said = program.said();
+    assert!(said.contains("guest 0: its process ended with status 5"), "{said}");
+    let text = "drive ram 1M\nguest 0 memory 1M\nextent 0 0 8\nstart 0 /no/such/program\n";
+    let mut program = Program::start(&folder, text, &[]);
+    assert_eq!(program.status(), 1);
+    let said = program.said();
+    assert!(said.contains("line 4") && said.contains("/no/such/program"), "{said}");
+}
+
+/// What the mediator refuses leaves no image behind, nor a crash.
+#[test]
+fn a_set_up_that_is_refused_makes_nothing() {
+    let folder = Folder::new("refused");
+    let image = folder.path("image");
+    let text = format!(
+        "drive ram 2200G {}\nguest 0 memory 1M\nextent 0 0 4294967296\nlisten 0 {}\n",
+        image.display(),
+        folder.path("g0").display()
+    );
+    let mut program = Program::start(&folder, &text, &[]);
+    assert_eq!(program.status(), 1);
+    assert!(!image.exists());
+}
+
+/// Nobody reads what it says, of which there is much.
+#[test]
+fn lines_that_nobody_reads() {
+    let folder = Folder::new("unread");
+    let mut program = Program::start(&folder, &configuration(&folder, 2, ""), &["--statistics"]);
+    let mut honest = connect(&folder, "g0");
+    if !is_real() {
+        return;
+    }
+    honest.bring_up().unwrap();
+    let mut hostile = Hostile::new(3);
+    for _ in 0..2000 {
+        if let Ok(client) = Client::connect(&folder.path("g1")) {
+            let _ = hostile.play(&client, &odd_descriptors().unwrap());
+        }
+    }
+    let longest = honest.longest_read(300).unwrap();
+    assert!(longest < Duration::from_millis(500), "{longest:?}");
+    program.signal(Signal::SIGTERM);
+    let begin = Instant::now();
+    assert_eq!(program.status(), 0);
+    assert!(begin.elapsed() < Duration::from_secs(8), "nobody has to read it");
+}
+
+/// With a guest whose controller is enabled and does nothing, and a doorbell page that is looked at.
+#[test]
+fn an_idle_program_costs_little() {
+    if !is_real() {
+        return;
+    }
+    let folder = Folder::new("idle");
+    let program = Program::start(&folder, &configuration(&folder, 1, ""), &[]);
+    let mut guest = connect(&folder, "g0");
+    guest.bring_up().unwrap();
+    guest.write_blocks(0, 7).unwrap();
+    std::thread::sleep(Duration::from_millis(200));
+    let before = program.ticks();
+    std::thread::sleep(Duration::from_secs(4));
+    let spent = program.ticks() - before;
+    println!("an idle program: {spent} hundredths of a second in 4 seconds");
+    assert!(spent <= 12, "{spent} hundredths of a second in 4 seconds");
+    guest.set_cc(0).unwrap();
+    guest.await_ready(0).unwrap();
+    let before = program.ticks();
+    std::thread::sleep(Duration::from_secs(2));
+    assert!(
+        program.ticks() - before <= 1,
+        "a page of a disabled controller is not looked at"
+    );
+}
