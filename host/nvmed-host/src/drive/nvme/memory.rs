@@ -79,11 +79,16 @@ pub fn clear(memory: &dyn DriveMemory, host: u64, len: u64) -> Result<(), DriveE
 /// Reads an aligned dword at once; what is read after it was not written before it.
 pub fn load32(memory: &dyn DriveMemory, host: u64) -> Result<u32, DriveError> {
     let slice = memory.slice(host, 4).ok_or_else(|| outside(host))?;
-    slice.load::<u32>(0, Ordering::Acquire).map(u32::from_le).map_err(|_| outside(host))
+    slice
+        .load::<u32>(0, Ordering::Acquire)
+        .map(u32::from_le)
+        .map_err(|_| outside(host))
 }
 
 /// Writes an aligned dword at once, after all that was stored before.
 pub fn store32(memory: &dyn DriveMemory, host: u64, value: u32) -> Result<(), DriveError> {
     let slice = memory.slice(host, 4).ok_or_else(|| outside(host))?;
-    slice.store(value.to_le(), 0, Ordering::Release).map_err(|_| outside(host))
+    slice
+        .store(value.to_le(), 0, Ordering::Release)
+        .map_err(|_| outside(host))
 }
