@@ -9,12 +9,18 @@
 # Rust, with warnings as errors. A check is one of these programs in one of the languages, run once: what it prints must be its .expected file, and under
 # valgrind there must be no error and no leak. Further checks are the C programs with sanitizers of addresses and of undefined behaviour, threads.c with
 # ThreadSanitizer, too (the races of racing.c are wanted), examples/host.c with the C library alone beside functions that have names of the toolchain's
-# archive, and two of the installation. Each check that fails is named, and what could not be run on this machine is named as left out: without clang, cc and
-# c++ are taken, and without rustc, valgrind or sanitizers their checks are left out. Without pkg-config the copy is named by its paths. The last line is 'N
-# passed, M failed', and the status is 0 where M is 0.
+# archive, two of the installation, and those of the library without proofs: that it is installed, says what it is, and runs two examples. Each check that
+# fails is named, and what could not be run on this machine is named as left out: without clang, cc and c++ are taken, and without rustc, valgrind or
+# sanitizers their checks are left out. Without pkg-config the copy is named by its paths. The last line is 'N passed, M failed', and the status is 0 where
+# M is 0.
+#
+# The library without proofs (bench/tried.py) is built in a minute or so, for first steps. It has names of its own, libnvmed-tried.a and nvmed-tried.pc; the
+# linker of GNU warns of it; and it has a mark by which a program's build can tell it, whatever its name.
 #
 #     bench/c.sh                     builds the library by rt lib, which proves what is not proved yet, and does all of the above
 #     bench/c.sh install PREFIX      installs it below PREFIX, or below DESTDIR and PREFIX where DESTDIR is set, and runs nothing
+#     bench/c.sh try install PREFIX  installs the library without proofs
+#     bench/c.sh try                 does the checks with the library without proofs
 #     bench/c.sh time                prints how long nvmed_work takes, over a drive of the host's (bench/serving.c) and of a simulation (bench/work.c), and
 #                                    a plain loop in C that proves nothing (bench/plain.c), and runs nothing else
 #     LIBRARY=libnv_c.a bench/c.sh   takes a library that is built already; so with install and time
@@ -24,8 +30,9 @@ export LC_ALL=C
 self=$(readlink -f "$0")
 top=$(dirname "$(dirname "$self")")
 header=$top/include/nvmed.h
-# what is installed
-files=(lib/libnvmed.a include/nvmed.h lib/pkgconfig/nvmed.pc)
+# the library's name, for the linker and for pkg-config, and what it is
+product=nvmed
+description='A proved NVMe mediator, as a library'
 # of one run of a program, in seconds; under valgrind they take some ten times as long as without it
 limit=120
 warnings=(-Wall -Wextra -Werror -O1 -gdwarf-4)
@@ -43,6 +50,19 @@ stop() {
     exit 1
 }
 
+# what an archive without proofs has in it, and the linker's warning
+mark='nvmed-tried: built without proofs'
+warning='this library was built without its proofs: use it for trials alone'
+tried=
+if [[ ${1:-} == try ]]; then
+    tried=yes
+    product=nvmed-tried
+    description='An NVMe mediator, as a library: built without its proofs, for trials alone'
+    shift
+fi
+# what is installed
+files=("lib/lib$product.a" include/nvmed.h "lib/pkgconfig/$product.pc")
+
 case "$#:${1:-}" in
     0: | 1:time | 2:install) ;;
     *)
@@ -55,7 +75,7 @@ if [[ ${1:-} == install ]]; then
     [[ -n $prefix ]] || stop "the prefix is empty"
     [[ $prefix == /* ]] || prefix=$PWD/$prefix
     prefix=${prefix%/}
-    [[ $prefix != *[[:space:]\"\'\\\$\#]* ]] || stop "nvmed.pc cannot name a prefix with spaces, quotes, a backslash, \$ or #: $prefix"
+    [[ $prefix != *[[:space:]\"\'\\\$\#]* ]] || stop "$product.pc cannot name a prefix with spaces, quotes, a backslash, \$ or #: $prefix"
 fi
 
 command -v rt > /dev/null || stop "the toolchain's command rt is not on the path"
@@ -63,7 +83,10 @@ kit=$(dirname "$(rt doc)")
 memory=$kit/c/liblibc_c.a
 
 library=${LIBRARY:-}
-if [[ -z $library ]]; then
+if [[ -n $tried ]]; then
+    "$top/bench/tried.py"
+    library=$top/crates/nv_c/out/libnv_c.tried.a
+elif [[ -z $library ]]; then
     (cd "$top/crates/nv_c" && rt lib)
     library=$top/crates/nv_c/out/libnv_c.a
 fi
@@ -90,22 +113,39 @@ names_in() {
     "$(tool nm llvm-nm)" -g --defined-only -P "$1" | sed -nE 's/^([^ ]+) [A-Z] .*/\1/p' | sort
 }
 
-# Makes libnvmed.a in the room.
+# Whether an archive has the mark of one without proofs.
+is_marked() {
+    grep -qF "$mark" "$1"
+}
+
+# Lets the linker warn of an object without proofs: the program that copies objects, and the object.
+warn_of() {
+    printf '%s\0' "$warning" > "$room/warning"
+    "$1" --add-section .gnu.warning.nvmed_raw_new="$room/warning" --add-section .gnu.warning.nvmed_raw_serve="$room/warning" "$2"
+}
+
+# Makes the library's archive in the room.
 make_archive() {
-    local declared name wanted=() linker copier archiver
+    local declared call wanted=() linker copier archiver
+    if [[ -n $tried ]]; then
+        is_marked "$library" || stop "$library has no mark that says that it was built without proofs"
+    elif is_marked "$library"; then
+        stop "$library was built without proofs: 'bench/c.sh try install PREFIX' installs it"
+    fi
     linker=$(tool ld ld.lld)
     copier=$(tool objcopy llvm-objcopy)
     archiver=$(tool ar llvm-ar)
     declared=$(sed -nE 's/^uint32_t (nvmed_raw_[a-z0-9_]+)\(.*/\1/p' "$header" | sort)
-    for name in $declared; do
-        wanted+=(-u "$name")
+    for call in $declared; do
+        wanted+=(-u "$call")
     done
     "$linker" -m elf_x86_64 -r -o "$room/nvmed.o" "${wanted[@]}" "$library" "$memory" || stop "$library was not made one object"
     "$copier" --wildcard --keep-global-symbol='nvmed_raw_*' "$room/nvmed.o" || stop "the names of $library were not made local"
     names_in "$room/nvmed.o" > "$room/names"
     diff <(echo "$declared") "$room/names" >&2 || stop "$library has not the functions that nvmed.h declares: < is not there, > is not declared"
-    rm -f "$room/libnvmed.a"
-    "$archiver" rcsD "$room/libnvmed.a" "$room/nvmed.o" || stop "libnvmed.a was not made"
+    [[ -z $tried ]] || warn_of "$copier" "$room/nvmed.o" || stop "the library without proofs got no warning"
+    rm -f "$room/lib$product.a"
+    "$archiver" rcsD "$room/lib$product.a" "$room/nvmed.o" || stop "lib$product.a was not made"
 }
 
 # A number of the interface's version: MAJOR or MINOR.
@@ -123,16 +163,16 @@ install_library() {
     minor=$(version MINOR)
     make_archive
     cp "$header" "$room/nvmed.h"
-    cat > "$room/nvmed.pc" << END
+    cat > "$room/$product.pc" << END
 prefix=$prefix
 includedir=\${prefix}/include
 libdir=\${prefix}/lib
 
-Name: nvmed
-Description: A proved NVMe mediator, as a library
+Name: $product
+Description: $description
 Version: $major.$minor
 Cflags: -I\${includedir}
-Libs: -L\${libdir} -lnvmed
+Libs: -L\${libdir} -l$product
 END
     for file in "${files[@]}"; do
         [[ ! -d $root/$file ]] || stop "nothing was installed: $root/$file is a folder"
@@ -146,7 +186,7 @@ END
         mv -fT "$root/$file.$$" "$root/$file" || stop "$root/$file was not replaced: install again"
     done
     unnamed=()
-    say "version $major.$minor is installed below $root: ${files[*]}"
+    say "version $major.$minor${tried:+, built without its proofs,} is installed below $root: ${files[*]}"
 }
 
 if [[ ${1:-} == install ]]; then
@@ -244,9 +284,26 @@ is_alone() {
 
 # Installs below a prefix, in a folder of its own or none (DESTDIR), and reports whether all is there then, with this prefix in it, and nothing else.
 installs() {
-    LIBRARY=$library DESTDIR=$1 "$self" install "$2" > /dev/null || return 1
+    LIBRARY=$library DESTDIR=$1 "$self" ${tried:+try} install "$2" > /dev/null || return 1
     diff <(printf '%s\n' "${files[@]}" | sort) <(cd "$1$2" && find . ! -type d | sed 's,^\./,,' | sort) || return 1
-    grep -qFx "prefix=$2" "$1$2/lib/pkgconfig/nvmed.pc"
+    grep -qFx "prefix=$2" "$1$2/lib/pkgconfig/$product.pc"
+}
+
+# Whether the library without proofs is installed beside the proved one, and which of the two has the mark.
+tried_is_installed() {
+    "$self" try install "$copy" > /dev/null || return 1
+    is_marked "$copy/lib/libnvmed-tried.a" && ! is_marked "$copy/lib/libnvmed.a"
+}
+
+# Whether an example prints what it must with the library without proofs, and the linker warns of that, where it is GNU's.
+tried_prints() {
+    local language=(-std=c11) words
+    words=$("$(compiler c)" "${language[@]}" "${warnings[@]}" "${flags[@]}" "$top/examples/$1.c" "-L$copy/lib" -lnvmed-tried -o "$room/tried" 2>&1) || {
+        echo "$words"
+        return 1
+    }
+    [[ $words == *"$warning"* ]] || ! "$(compiler c)" -Wl,--version 2> /dev/null | grep -q '^GNU ld' || return 1
+    prints "$top/examples/$1.expected" "$room/tried"
 }
 
 copy=$room/installed
@@ -256,12 +313,12 @@ if [[ $failed != 0 ]]; then
     exit 1
 fi
 flags=("-I$copy/include")
-libs=("-L$copy/lib" -lnvmed)
+libs=("-L$copy/lib" "-l$product")
 if command -v pkg-config > /dev/null; then
     unset PKG_CONFIG_SYSROOT_DIR
     export PKG_CONFIG_PATH=$copy/lib/pkgconfig
-    read -ra flags < <(pkg-config --cflags nvmed)
-    read -ra libs < <(pkg-config --libs nvmed)
+    read -ra flags < <(pkg-config --cflags "$product")
+    read -ra libs < <(pkg-config --libs "$product")
 else
     say "there is no pkg-config: the copy that is installed is named by its paths"
 fi
@@ -318,6 +375,12 @@ if [[ -n $it ]]; then
     check "examples/threads.c with ThreadSanitizer" sanitized examples/threads.c examples/threads.expected "$it" "${race_sanitizer[@]}" -pthread
 else
     say "no compiler of C has ThreadSanitizer: left out is the check with it"
+fi
+if [[ -z $tried ]]; then
+    check "the installation of the library without proofs" tried_is_installed
+    for example in host hosting; do
+        check "examples/$example.c with the library without proofs" tried_prints "$example"
+    done
 fi
 echo "$passed passed, $failed failed"
 [[ $failed == 0 ]]

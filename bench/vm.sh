@@ -1,27 +1,29 @@
 #!/usr/bin/env bash
-# Real virtual machines on the host program: unmodified guests share a drive through the mediator.
+# Real virtual machines on the host program: unmodified guests share a drive through the mediator, by QEMU's own client of vfio-user.
 #
-#     bench/vm.sh linux       two Linux guests at the same time, each with two extents that alternate on the drive: the commands of nvme-cli, a file
-#                             system, fio with verification, one guest by scatter gather lists; a third guest, a program that speaks as a QEMU does, sends
-#                             random commands, resets its controller, and writes at random into its own queues all the while. Then all is started again,
-#                             and the file systems are as they were. Each guest's blocks stand in the drive's image where its extents say, and the blocks
+#     bench/vm.sh linux       two Linux guests at the same time, of Debian's oldest and newest kernel, each with two extents that alternate on the drive: the
+#                             commands of nvme-cli, ext4 and XFS with checksums, fio with verification (libaio, io_uring, io_uring_cmd), resets under load, a
+#                             reboot; one guest by scatter gather lists; a third guest, a program that speaks as a QEMU does, sends random commands, resets
+#                             its controller, and writes at random into its own queues all the while. Then all is started again, with the kernel between
+#                             them, and the file systems are as they were. Each guest's blocks stand in the drive's image where its extents say, and the blocks
 #                             that are no guest's have not changed
 #     bench/vm.sh drive       the same, and the drive is the NVMe controller of another QEMU, which is started again, too
-#     bench/vm.sh vfio        in a virtual machine with an I/O MMU: an access outside of what is mapped faults; the program drives QEMU's controller by VFIO,
-#                             with a guest that writes, reads back and compares beside a hostile one. The image is looked at as above
+#     bench/vm.sh vfio        in a virtual machine with an I/O MMU: the program drives QEMU's controller by VFIO, with a guest that writes, reads back and
+#                             compares beside a hostile one. The image is looked at as above
 #     bench/vm.sh firmware    SeaBIOS boots a boot sector from the shared drive, two guests at once, each its own; EDK2 finds it and reads a file
+#     bench/vm.sh machines    guests of 3 GiB, of exactly the size at which the machine's memory is split, and of 5 GiB, on q35 and on pc, two processors;
+#                             two drives of two programs in one guest
 #     bench/vm.sh faults      a guest is killed in the middle of its reads and writes ten times, and comes back each time, beside one that goes on; QEMU's
-#                             controller stops answering; it shows a fatal status; it has a block that cannot be read; it is slow, and a guest's reset and
-#                             next QEMU wait for its Reads, a shutdown not for those of others; a guest's lists have no end; a message is not ended;
-#                             1,000,000 rounds of random input for transport and configuration
+#                             controller stops answering; it shows a fatal status; it has a block that cannot be read; it is slow, and a guest's next QEMU
+#                             waits for its Reads, a shutdown not for those of others; a guest's lists have no end; a message is not ended
 #     bench/vm.sh speed       fio in one guest that has the program's drive and one of QEMU's own controller, by turns of a second, with equal images; and
 #                             the processor time that the program needs for a command
 #     bench/vm.sh hour [N]    two Linux guests at work and a hostile one for an hour, or N minutes: the program's memory and descriptors are constant
 #
-# They need Debian's qemu-system-x86; vfio busybox-static and cpio, too; firmware ovmf, mtools and dosfstools; the others busybox-static, cpio, nvme-cli, fio
-# and e2fsprogs. A kernel comes by apt-get download. What is missing is installed, and named. What is unpacked is kept in VM_CACHE (else ~/.cache/nvmed-vm).
-# The library is taken from LIBRARY, as by bench/c.sh, or built. Once that is there, each run but hour ends by itself within ten minutes. The last line is 'N
-# passed, M failed', and the status is 0 where M is 0.
+# A current QEMU and Debian's kernels are fetched and unpacked, once, into VM_CACHE (else ~/.cache/nvmed-vm); they need not be of this system's own release.
+# Debian's busybox-static, cpio, kmod, xz-utils, nvme-cli, fio, e2fsprogs and xfsprogs, and for firmware ovmf, mtools and dosfstools are installed where they are
+# missing, and named. The library is taken from NVMED_PREFIX where that is set; else it is built, of LIBRARY if that is set, as bench/c.sh does. Once that is there,
+# each run but hour ends by itself within ten minutes. The last line is 'N passed, M failed', and the status is 0 where M is 0.
 set -euo pipefail
 export LC_ALL=C
 top=$(dirname "$(dirname "$(readlink -f "$0")")")
@@ -31,9 +33,10 @@ cache=${VM_CACHE:-${XDG_CACHE_HOME:-$HOME/.cache}/nvmed-vm}
 accelerator=tcg
 # shellcheck disable=SC2034
 [[ -z ${KVM:-} ]] || accelerator=kvm
-# VALGRIND=1 runs the program under valgrind, SANITIZE=1 takes one that host/build makes with sanitizers: what these find is a failure
+# what stands before the program's words
 wrapper=()
-[[ -z ${VALGRIND:-} ]] || wrapper=(valgrind --quiet --leak-check=full --show-leak-kinds=all --error-exitcode=9)
+program=$top/host/target/release/nvmed-host
+live=$top/host/target/release/examples/guest_live
 # of a run, in seconds
 limit=600
 passed=0
@@ -44,7 +47,7 @@ stop() {
     exit 1
 }
 
-[[ ($# == 1 && $1 =~ ^(linux|drive|vfio|firmware|faults|speed|hour)$) || ($# == 2 && $1 == hour && $2 =~ ^[1-9][0-9]{0,2}$) ]] || {
+[[ ($# == 1 && $1 =~ ^(linux|drive|vfio|firmware|machines|faults|speed|hour)$) || ($# == 2 && $1 == hour && $2 =~ ^[1-9][0-9]{0,2}$) ]] || {
     sed -n '/^#     /s/^#     //p' "$0" >&2
     exit 2
 }
@@ -99,25 +102,22 @@ need() {
     apt-get install -y --no-install-recommends "${missing[@]}" > "$room/apt" 2>&1 || stop "they could not be installed: ${missing[*]}"
 }
 
+# Builds the program over the library, and the guest without a machine.
 make_host() {
-    "$top/bench/c.sh" install "$room/library" > "$room/built" 2>&1 || stop "the library was not installed: $(tail -n 1 "$room/built")"
-    "$top/host/build" "$room/library" > "$room/built" 2>&1 || stop "the host program was not built: $(tail -n 1 "$room/built")"
-}
-
-# Builds a program of host/tests, with these further files of it, over the modules.
-make_test() {
-    local name=$1 flags=(-std=c11 -D_GNU_SOURCE -O2 -g -Wall -Wextra -Werror)
-    shift
-    [[ -z ${SANITIZE:-} ]] || flags+=(-fsanitize=address -fsanitize=undefined)
-    (cd "$top/host" && "$(command -v clang || command -v cc)" "${flags[@]}" -I. "tests/$name.c" "$@" out/libhost.a -o "out/$name") > "$room/built" 2>&1 ||
-        stop "host/tests/$name.c was not built: $(tail -n 1 "$room/built")"
+    local prefix=${NVMED_PREFIX:-$room/library}
+    if [[ -z ${NVMED_PREFIX:-} ]]; then
+        "$top/bench/c.sh" install "$prefix" > "$room/built" 2>&1 || stop "the library was not installed: $(tail -n 1 "$room/built")"
+    fi
+    "$top/host/deps" > "$room/built" 2>&1 || echo "bench/vm.sh: $(tail -n 1 "$room/built")"
+    (cd "$top/host" && NVMED_PREFIX=$prefix cargo build --quiet --release --bins --examples) > "$room/built" 2>&1 ||
+        stop "the host program was not built: $(tail -n 1 "$room/built")"
 }
 
 # Starts the host program on a configuration, with further words before it, beside this script, which a signal then ends at once. What it reports is in
 # $room/host.
 begin_host() {
     rm -f "$room"/serial.*
-    "${wrapper[@]}" "$top/host/out/nvmed-host" "${@:2}" "$1" 2> "$room/host" &
+    "${wrapper[@]}" "$program" "${@:2}" "$1" 2> "$room/host" &
     host=$!
 }
 
@@ -151,9 +151,11 @@ says() {
     }
 }
 
-need qemu-system-x86_64:qemu-system-x86
+# shellcheck source=/dev/null
+source "$top/bench/vm/current.sh"
 # shellcheck source=/dev/null
 source "$top/bench/vm/$1.sh"
+get_qemu
 prepare
 make_host
 SECONDS=0

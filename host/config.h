@@ -23,7 +23,7 @@ enum {
     CONFIG_TEXT = 65536,   /* bytes of all paths and words that are kept, with a NUL each */
     CONFIG_SOCKET = 107,   /* bytes of a socket's path */
     CONFIG_PATH = 1023,    /* bytes of a file's path */
-    CONFIG_VERSION = 0x10300, /* where no line says it: 1.3, which Linux takes without complaint */
+    CONFIG_VERSION = 0x10200, /* where no line says it: 1.2; from 1.3 on Linux wants namespace descriptors, which are refused */
     CONFIG_SPIN = 100,     /* microseconds, where no line says it, */
     CONFIG_SPINS = 1000000 /* and the most */
 };
@@ -44,7 +44,7 @@ typedef struct config_guest {
     unsigned share_line;
     uint32_t descriptors; /* of an SGL, 1 to 4,096; 1,024 where no line says it */
     bool descriptors_said;
-    uint32_t version;               /* presented in the version register, in its form; 1.3 where no line says it */
+    uint32_t version;               /* presented in the version register, in its form; 1.2 where no line says it */
     bool version_said;
     const char *listen;             /* the socket to listen on, or NULL */
     char *start[CONFIG_STARTS + 1]; /* or the words of QEMU to start, then NULL */

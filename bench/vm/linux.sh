@@ -6,39 +6,44 @@ source "$top/bench/vm/system.sh"
 # shellcheck source=/dev/null
 source "$top/bench/vm/image.sh"
 
-programs=(nvme mke2fs fio e2fsck)
-# under TCG no interrupt gets through QEMU's proxy: the kernel polls (docs/HOSTING.md). Beside other work its timer may seem to stand still, which is no
-# reason to panic.
-words="console=ttyS0 quiet panic=-1 pci=nomsi irqpoll nolapic_timer no_timer_check"
-[[ $accelerator == tcg ]] || words="console=ttyS0 quiet panic=-1 pci=nomsi"
+programs=(nvme mke2fs fio e2fsck mkfs.xfs xfs_repair)
+# beside other work the timer of a guest under TCG may seem to stand still, which is no reason to panic
+words="console=ttyS0 quiet panic=-1 no_timer_check"
+# the kernels of guest 0 and 1, and of both once all is started again
+kernels=(6.1 newest)
+later=6.12
 # of a guest, in MiB: one with Linux, and one without a machine
 memory=448
 small=32
 
 prepare() {
-    need busybox:busybox-static nvme:nvme-cli fio:fio mke2fs:e2fsprogs cpio:cpio
-    get_kernel
+    local it
+    need busybox:busybox-static nvme:nvme-cli fio:fio mke2fs:e2fsprogs mkfs.xfs:xfsprogs cpio:cpio /sbin/depmod:kmod xz:xz-utils
+    for it in "${kernels[@]}" "$later"; do get_kernel "$it"; done
 }
 
-# A small system with Debian's programs for a user of a drive.
-make_system() {
-    begin_system "${linux_modules[@]}"
-    add_programs "${programs[@]}"
-    cp /etc/mke2fs.conf "$room/system/etc/"
-    end_system
+# Small systems with Debian's programs for a user of a drive, one for each kernel.
+make_systems() {
+    local it
+    for it in "$@"; do
+        begin_system "$it"
+        add_programs "${programs[@]}"
+        cp /etc/mke2fs.conf "$room/system/etc/"
+        end_system "$room/initrd-$it"
+    done
 }
 
-# The words of a Linux guest's QEMU: its number, its part, and further words for its kernel. What is added to them is its drive.
+# The words of a Linux guest's QEMU: its number, its kernel, its part, and further words for its kernel. What is added to them is its drive.
 start_lines() {
-    echo "start $1 qemu-system-x86_64 -accel $accelerator -cpu max -display none -serial file:$room/serial.$1 -no-reboot -net none"
-    echo "start $1 -kernel $cache/vmlinuz -initrd $room/initrd -append \"$words guest=$1 part=$2 $3\""
+    echo "start $1 qemu-system-x86_64 -machine ${machine:-q35} -accel $accelerator -cpu max -display none -serial file:$room/serial.$1 -net none"
+    echo "start $1 -kernel $cache/kernel-$2/vmlinuz -initrd $room/initrd-$2 -append \"$words guest=$1 part=$3 $4\""
 }
 
-# The lines of a Linux guest: its number, its part, further words for its kernel, and the file for its memory, if it has one.
+# The lines of a Linux guest: its number, its kernel, its part, further words for its kernel, and the file for its memory, if it has one.
 guest_lines() {
-    echo "guest $1 memory ${memory}M${4:+ $4}"
+    echo "guest $1 memory ${memory}M${5:+ $5}"
     extent_lines "$1"
-    start_lines "$1" "$2" "$3"
+    start_lines "$1" "$2" "$3" "$4"
 }
 
 # The lines of a guest that comes to the program's socket: its number and the file for its memory.
@@ -68,7 +73,7 @@ has_passed() {
 
 # Starts a guest that breaks all rules, which is the program guest_live.
 begin_hostile() {
-    "$top/host/out/guest_live" hostile "$shared/guest$1" "$shared/ram$1" "$RANDOM" > "$room/hostile" 2>&1 &
+    "$live" hostile "$shared/guest$1" "$shared/ram$1" "$RANDOM" > "$room/hostile" 2>&1 &
     hostile=$!
 }
 
@@ -86,7 +91,7 @@ hostile_ended() {
 
 # Writes all blocks of a guest without a machine to a file, as it reads them.
 read_guest() {
-    quietly "$top/host/out/guest_live" reads "$shared/guest$1" "$shared/ram$1" "$room/blocks.$1"
+    quietly "$live" reads "$shared/guest$1" "$shared/ram$1" "$room/blocks.$1"
 }
 
 end_host() {
@@ -100,16 +105,18 @@ run_on() {
     {
         echo "drive $drive"
         echo "lanes 2"
-        guest_lines 0 files "" "${3:-}"
-        guest_lines 1 files "nvme=sgl_threshold=512" "${4:-}"
+        guest_lines 0 "${kernels[0]}" files fs=ext4 "${3:-}"
+        guest_lines 1 "${kernels[1]}" files "fs=xfs nvme=sgl_threshold=512" "${4:-}"
         listening_lines 2 "$shared/ram2"
     } > "$room/first"
-    sed 's/part=[a-z]*/part=again/' "$room/first" > "$room/again"
+    sed "s/part=[a-z]*/part=again/; s/\(kernel\|initrd\)-[0-9a-z.]*/\1-$later/" "$room/first" > "$room/again"
     "$begin"
     begin_host "$room/first"
     begin_hostile 2
     check "guest 0" has_passed 0
     check "guest 1" has_passed 1
+    check "guest 0 has rebooted" says 0 "guest 0: reboots"
+    check "guest 1 has rebooted" says 1 "guest 1: reboots"
     check "guest 2, which is hostile, has its controller still" hostile_ended
     check "the host program, with three guests" end_host
     "$begin"
@@ -130,8 +137,7 @@ compare() {
 
 # What all runs with Linux guests need.
 begin_run() {
-    make_test guest_live tests/proxied.c tests/hostile.c
-    make_system
+    make_systems "${kernels[@]}" "$later"
     paint
 }
 

@@ -27,9 +27,7 @@ fn library() -> &'static str {
         return "stub";
     }
     let found = match env::var_os("NVMED_PREFIX") {
-        Some(prefix) => NAMES
-            .iter()
-            .find_map(|name| archive(PathBuf::from(&prefix).join("lib"), name)),
+        Some(prefix) => in_prefix(&PathBuf::from(prefix).join("lib")),
         None => NAMES.iter().find_map(|name| archive(installed(name)?, name)),
     };
     let Some((folder, name)) = found else {
@@ -48,6 +46,15 @@ fn library() -> &'static str {
         return "tried";
     }
     "proved"
+}
+
+/// The archive of a folder. Where there is none, cargo looks again each time.
+fn in_prefix(folder: &Path) -> Option<(PathBuf, &'static str)> {
+    let found = NAMES.iter().find_map(|name| archive(folder.to_path_buf(), name));
+    if found.is_none() {
+        println!("cargo:rerun-if-changed={}", file_of(folder, NAMES[0]).display());
+    }
+    found
 }
 
 fn file_of(folder: &Path, name: &str) -> PathBuf {

@@ -248,7 +248,7 @@ static const char help[] =
     "  extent G BASE BLOCKS       blocks of 512 bytes that are the guest's: 1 to 8 lines, and 64 of all guests\n"
     "  share G TAGS               of each lane it has so many of the 64 tags at most\n"
     "  descriptors G N            of a scatter gather list of the guest, 1 to 4,096; 1,024 without this line\n"
-    "  version G 1.3              what its version register says, of 1.0 to 2.0; 1.3 without this line\n"
+    "  version G 1.2              what its version register says, of 1.0 to 2.0; 1.2 without this line\n"
     "  listen G PATH              its QEMU connects to this socket, or\n"
     "  start G WORD..             its QEMU is started with these words; more such lines add words\n"
     "\n"

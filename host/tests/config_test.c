@@ -48,7 +48,7 @@ static void test_good(void) {
     CHECK(c.guest[0].memory == 512u << 20 && c.guest[0].extents == 2 && c.guest[0].extent[0].base == 1000 && c.guest[0].extent[0].blocks == 64);
     CHECK(c.guest[0].extent[1].base == 0x500 && c.guest[0].extent[1].blocks == 0x20 && c.guest[0].share == 40 && c.guest[0].version == 0x10200);
     CHECK(c.guest[0].descriptors == 4096 && !strcmp(c.guest[0].listen, "/run/guest0.sock") && c.guest[0].starts == 0);
-    CHECK(c.guest[1].memory == 4096 && c.guest[1].extents == 1 && c.guest[1].share == 0 && c.guest[1].version == 0x10300 && c.guest[1].descriptors == 1024);
+    CHECK(c.guest[1].memory == 4096 && c.guest[1].extents == 1 && c.guest[1].share == 0 && c.guest[1].version == 0x10200 && c.guest[1].descriptors == 1024);
     CHECK(c.guest[1].starts == 6 && !c.guest[1].listen && !c.guest[1].start[6]);
     CHECK(!strcmp(c.guest[1].start[0], "qemu-system-x86_64") && !strcmp(c.guest[1].start[1], "-append") && !strcmp(c.guest[1].start[2], "a # \"b\" \\"));
     CHECK(!strcmp(c.guest[1].start[3], "") && !strcmp(c.guest[1].start[4], "-m") && !strcmp(c.guest[1].start[5], "512"));

@@ -99,11 +99,11 @@ impl PrivateFolder {
             }
             let flags = OFlag::O_PATH | OFlag::O_DIRECTORY | OFlag::O_NOFOLLOW | OFlag::O_CLOEXEC;
             return match nix::fcntl::open(&path, flags, Mode::empty()) {
-                // SAFETY: the descriptor was just opened, and nobody else has it.
-                Ok(fd) => Ok(Self {
-                    path,
-                    descriptor: unsafe { OwnedFd::from_raw_fd(fd) },
-                }),
+                Ok(fd) => {
+                    // SAFETY: the descriptor was just opened, and nobody else has it.
+                    let descriptor = unsafe { OwnedFd::from_raw_fd(fd) };
+                    Ok(Self { path, descriptor })
+                }
                 Err(e) => {
                     let _ = fs::remove_dir(&path);
                     Err(failed(e.into()))

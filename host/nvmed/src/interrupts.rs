@@ -83,13 +83,25 @@ impl<'a> IntoIterator for &'a Vectors {
 /// What a caller of [`Mediator::posted`](crate::Mediator::posted) has seen of all guests: nothing at first. It is used with one mediator.
 #[derive(Debug, Clone, Default)]
 pub struct Seen {
-    pub(crate) guests: [u64; GUESTS],
+    pub(crate) guests: [[u64; VECTORS]; GUESTS],
 }
 
 impl Seen {
     /// Nothing was seen yet.
     pub fn new() -> Self {
         Self::default()
+    }
+
+    /// What was seen of a guest's queues.
+    pub(crate) fn of(&self, guest: u32) -> [u64; VECTORS] {
+        self.guests.get(guest as usize).copied().unwrap_or_default()
+    }
+
+    /// Keeps what was seen of a guest's queues.
+    pub(crate) fn keep(&mut self, guest: u32, queues: [u64; VECTORS]) {
+        if let Some(own) = self.guests.get_mut(guest as usize) {
+            *own = queues;
+        }
     }
 }
 

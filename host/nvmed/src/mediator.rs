@@ -228,37 +228,59 @@ impl<M: HostMemory> Mediator<M> {
     pub fn pending(&mut self, guest: u32) -> Result<Vectors, Error> {
         let mut vectors = Vectors::new();
         for queue in 0..VECTORS as u32 {
-            let mut vector = 0;
-            // SAFETY: the handle holds a mediator and has one caller; `vector` is a local.
-            let answer = unsafe { sys::nvmed_raw_pending(&mut self.lent.handle, guest, queue, &mut vector) };
-            match answer {
-                // the library gives vectors of 16 bits
-                status::OK => vectors.push(vector as u16),
-                status::IDLE => {}
-                other => Error::check(other)?,
+            if let Some(vector) = self.raised(guest, queue)? {
+                vectors.push(vector);
             }
         }
         Ok(vectors)
     }
 
-    /// The vectors of a guest for which a message is to be sent (MSI-X): those that are pending, where something changed since this was asked last with
-    /// the same `seen`. A message too many does no harm; none is left out.
+    /// The vector that a completion queue of a guest raises, 0 to 8.
+    fn raised(&mut self, guest: u32, queue: u32) -> Result<Option<u16>, Error> {
+        let mut vector = 0;
+        // SAFETY: the handle holds a mediator and has one caller; `vector` is a local.
+        let answer = unsafe { sys::nvmed_raw_pending(&mut self.lent.handle, guest, queue, &mut vector) };
+        match answer {
+            // the library gives vectors of 16 bits
+            status::OK => Ok(Some(vector as u16)),
+            status::IDLE => Ok(None),
+            other => Err(Error::check(other).err().unwrap_or(Error::Unknown(other))),
+        }
+    }
+
+    /// The vectors of a guest for which a message is to be sent (MSI-X): those that are pending, of completion queues to which something happened since
+    /// this was asked last with the same `seen`: a completion was posted, or the guest acknowledged some and not all. A message too many does no harm;
+    /// none is left out.
     ///
     /// # Errors
     ///
     /// As of [`pending`](Self::pending); `seen` is as it was then.
     pub fn posted(&mut self, guest: u32, seen: &mut Seen) -> Result<Vectors, Error> {
-        let Some(last) = seen.guests.get_mut(guest as usize) else {
-            return self.pending(guest);
-        };
-        if *last == self.changes {
-            return Ok(Vectors::new());
+        let marks = self.marks(guest);
+        let mut vectors = Vectors::new();
+        let mut own = seen.of(guest);
+        for (queue, (mark, last)) in (0..).zip(marks.into_iter().zip(&mut own)) {
+            if let Some(vector) = self.raised(guest, queue)? {
+                if mark != *last {
+                    vectors.push(vector);
+                }
+            }
+            *last = mark;
         }
-        let vectors = self.pending(guest)?;
-        if let Some(last) = seen.guests.get_mut(guest as usize) {
-            *last = self.changes;
-        }
+        seen.keep(guest, own);
         Ok(vectors)
+    }
+
+    /// A number of each completion queue of a guest that changes where something happened to it.
+    #[cfg(not(feature = "stub"))]
+    fn marks(&self, _guest: u32) -> [u64; VECTORS] {
+        [self.changes; VECTORS]
+    }
+
+    /// The same of the stub, which counts for each queue.
+    #[cfg(feature = "stub")]
+    fn marks(&self, guest: u32) -> [u64; VECTORS] {
+        self.stub().changes(guest)
     }
 
     /// Gives a guest a share of `tags` of each lane's 64 tags. At the start each guest has one tag for each of its extents, and an equal part of those
@@ -343,4 +365,27 @@ fn check_pieces(memory: &impl HostMemory, set_up: &SetUp) -> Result<(), Error> {
         }
     }
     Ok(())
+}
+
+#[cfg(test)]
+mod tests {
+    use super::*;
+    use vm_memory::MmapRegion;
+
+    /// Says by its number of implementations whether a type is `Sync`: of one that is, the name below is ambiguous.
+    trait IsNotSync<A> {
+        fn is_not_sync() {}
+    }
+    impl<T: ?Sized> IsNotSync<()> for T {}
+    #[allow(dead_code)]
+    struct OfSync;
+    impl<T: ?Sized + Sync> IsNotSync<OfSync> for T {}
+
+    fn is_send<T: Send>() {}
+
+    #[test]
+    fn a_mediator_may_go_to_another_thread_and_has_one_caller() {
+        is_send::<Mediator<MmapRegion>>();
+        <Mediator<MmapRegion> as IsNotSync<_>>::is_not_sync();
+    }
 }

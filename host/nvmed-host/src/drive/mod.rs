@@ -3,8 +3,11 @@
 //! The lanes' rings, lists and data lie in the [`Window`](crate::memory::Window). The mediator writes and reads them; the mediator's thread rings the
 //! doorbells here. No call waits for a controller but those that open one: what takes long goes on in threads of the drive's own.
 
+pub mod entry;
 pub mod nvme;
+pub mod prp;
 pub mod qtest;
+pub mod ram;
 pub mod vfio;
 
 use std::os::fd::BorrowedFd;

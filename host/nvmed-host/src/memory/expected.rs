@@ -126,6 +126,7 @@ pub struct Expected {
     file: Option<Identity>,
     shown: Ranges,
     complete: bool,
+    without_file: bool,
 }
 
 impl Expected {
@@ -141,6 +142,7 @@ impl Expected {
             file,
             shown: Ranges::default(),
             complete: false,
+            without_file: false,
         }
     }
 
@@ -225,10 +227,35 @@ impl Expected {
         self.regions.iter().find_map(|region| self.missing_of(region))
     }
 
+    /// Notes that a part was shown without a descriptor: ROM and the like, or RAM that QEMU shares with nobody, which is remembered for a message.
+    pub fn note_without_file(&mut self, address: u64, bytes: u64) {
+        let end = address.saturating_add(bytes);
+        let in_ram = |r: &RamRegion| address < r.address.saturating_add(r.bytes) && r.address < end;
+        let in_hole = address >= LEGACY_HOLE.start && end <= LEGACY_HOLE.end;
+        self.without_file |= !in_hole && self.regions.iter().any(in_ram);
+    }
+
+    /// Words for the operator on what is missing, and what to do: `None` where nothing is.
+    pub fn waits_for(&self) -> Option<String> {
+        let Range { start, end } = self.missing()?;
+        let advice = if self.without_file {
+            format!(
+                "it comes without a file: give QEMU '-object memory-backend-memfd,id=m,share=on,size={}' and '-machine memory-backend=m'",
+                self.bytes
+            )
+        } else {
+            format!("it needs a machine of type {} with -m {}B", self.machine, self.bytes)
+        };
+        Some(format!(
+            "the machine does not show its memory from {start:#x} to {end:#x}: {advice}"
+        ))
+    }
+
     /// Begins anew, for the next connection.
     pub fn restart(&mut self) {
         self.shown = Ranges::default();
         self.complete = false;
+        self.without_file = false;
     }
 
     fn missing_of(&self, region: &RamRegion) -> Option<Range<u64>> {

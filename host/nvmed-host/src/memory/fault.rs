@@ -154,11 +154,14 @@ fn answer(address: usize) -> bool {
         if address < start || address >= end {
             continue;
         }
-        let before = entry.faults.fetch_add(1, Ordering::AcqRel);
-        ALL.fetch_add(1, Ordering::AcqRel);
         let page = PAGE as usize;
         // where the file has larger pages a single one cannot be replaced
-        return (before < FAULTS_BY_PAGE && put_zeros(address & !(page - 1), page)) || put_zeros(start, end - start);
+        let by_page = entry.faults.load(Ordering::Acquire) < FAULTS_BY_PAGE;
+        let put = (by_page && put_zeros(address & !(page - 1), page)) || put_zeros(start, end - start);
+        // only now: whoever begins to count from 0 meanwhile has these zeros counted, too
+        entry.faults.fetch_add(1, Ordering::AcqRel);
+        ALL.fetch_add(1, Ordering::AcqRel);
+        return put;
     }
     false
 }

@@ -125,9 +125,21 @@ impl GuestMemory {
         self.expected.is_complete()
     }
 
+    /// Notes a DMA_MAP without a descriptor, of ROM and the like. It is to be answered with success, and never used. Where QEMU shares its RAM with nobody
+    /// that comes so, too, and [`GuestMemory::waits_for`] says what to do.
+    pub fn map_without_file(&mut self, address: u64, bytes: u64) {
+        self.expected.note_without_file(address, bytes);
+    }
+
     /// The first guest addresses that have not been shown yet, for a message.
     pub fn missing(&self) -> Option<std::ops::Range<u64>> {
         self.expected.missing()
+    }
+
+    /// Words for the operator on what has not been shown yet, and what to do: `None` where all has. A machine shows all of its memory as it connects, so
+    /// this is worth a line where a guest enables its controller before [`GuestMemory::is_complete`].
+    pub fn waits_for(&self) -> Option<String> {
+        self.expected.waits_for()
     }
 
     /// How many accesses of this memory met pages that its file no longer has: where it is not 0 the guest is to be given up.

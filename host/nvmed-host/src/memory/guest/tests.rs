@@ -71,12 +71,16 @@ fn a_guest_whose_file_is_known() {
             .contains("is no part of a machine of type q35 with -m 67108864B"),
         "{e}"
     );
-    assert_eq!(memory.missing(), Some(0..BYTES));
+    let words = memory.waits_for().unwrap();
+    assert_eq!(
+        words,
+        "the machine does not show its memory from 0x0 to 0x4000000: it needs a machine of type q35 with -m 67108864B"
+    );
     let part = memory.map(&part(0, 0xa_0000), fd.try_clone().unwrap()).unwrap();
     assert_eq!(part.host, HOST);
     assert!(!memory.is_complete());
     show(&mut memory, fd.as_fd()).unwrap();
-    assert!(memory.is_complete() && memory.missing().is_none());
+    assert!(memory.is_complete() && memory.waits_for().is_none());
     // the next connection has to show it anew, and the file stays
     memory.restart().unwrap();
     assert!(!memory.is_complete() && memory.file().is_some());
@@ -182,4 +186,23 @@ fn a_place_that_is_none() {
     ));
     let e = GuestMemory::adopting(window, Machine::Q35, 1, BYTES, Trust::Sealed).unwrap_err();
     assert!(matches!(e, MemoryError::NoPages { .. }) && MapError::Memory(e).errno() == libc::ENOMEM);
+}
+
+/// As QEMU without a memory backend comes: it shares its memory with nobody.
+#[test]
+fn a_machine_that_shares_nothing() {
+    let mut memory = GuestMemory::adopting(window(), Machine::Q35, HOST, BYTES, Trust::Sealed).unwrap();
+    for (address, bytes) in [(0xfffc_0000, 0x4_0000), (0xe_0000, 0x2_0000), (0xc_0000, 0x4_0000)] {
+        memory.map_without_file(address, bytes);
+        assert!(memory
+            .waits_for()
+            .unwrap()
+            .ends_with("it needs a machine of type q35 with -m 67108864B"));
+    }
+    memory.map_without_file(MIB, BYTES - MIB);
+    let advice = "it comes without a file: give QEMU '-object memory-backend-memfd,id=m,share=on,size=67108864' and '-machine memory-backend=m'";
+    assert!(memory.waits_for().unwrap().ends_with(advice));
+    memory.restart().unwrap();
+    memory.map_without_file(u64::MAX, u64::MAX);
+    assert!(!memory.waits_for().unwrap().ends_with(advice));
 }

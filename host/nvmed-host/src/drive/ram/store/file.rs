@@ -1,0 +1,371 @@
+#![allow(unsafe_code)]
+//! Bytes in a regular file, by system calls at offsets: a file that is cut off gives an error, no signal.
+
+use std::fs::{File, OpenOptions};
+use std::io;
+use std::os::fd::{AsRawFd, RawFd};
+use std::os::unix::fs::{MetadataExt, OpenOptionsExt};
+use std::path::{Path, PathBuf};
+use std::sync::atomic::{AtomicBool, Ordering};
+
+use nix::fcntl::{fallocate, fcntl, FallocateFlags, FcntlArg, Flock, FlockArg};
+use nix::sys::statfs::{fstatfs, TMPFS_MAGIC};
+use nix::sys::statvfs::fstatvfs;
+use nix::unistd::{lseek, Whence};
+use vm_memory::VolatileSlice;
+
+use super::{Store, Wait};
+use crate::drive::DriveError;
+
+/// Places that one system call takes: more than a command of 128 KiB has.
+const MOST_PLACES: usize = 40;
+/// Zeros, for file systems without holes.
+static ZEROS: [u8; 65536] = [0; 65536];
+
+/// A store in a file, which is locked as long as it is open.
+pub struct FileStore {
+    file: Flock<File>,
+    words: String,
+    bytes: u64,
+    waits: bool,
+    /// Whether the file system takes reads and writes that may not wait.
+    reads_at_once: AtomicBool,
+    writes_at_once: AtomicBool,
+    /// Whether it can punch holes, and make bytes zero that keep their room.
+    has_holes: AtomicBool,
+    has_zeros: AtomicBool,
+}
+
+impl FileStore {
+    /// Opens the image `path` for this process alone. A new one is created, and its folder is synced; one that is too short becomes longer. Nothing is
+    /// allocated: what was not written reads as zeros.
+    ///
+    /// # Errors
+    ///
+    /// In words where the file cannot be created, opened, locked or made so long, or is no regular file. A file that was created for it is gone then.
+    pub fn open(path: &Path, bytes: u64) -> Result<FileStore, DriveError> {
+        let (file, is_new) = open_or_create(path)?;
+        let opened = Self::prepare(path, file, bytes, is_new);
+        if opened.is_err() && is_new {
+            // It was created a moment ago, is empty, and nothing else was said of it.
+            let _ = std::fs::remove_file(path);
+        }
+        opened
+    }
+
+    fn prepare(path: &Path, file: File, bytes: u64, is_new: bool) -> Result<FileStore, DriveError> {
+        let refused = |what: &str, error: &dyn std::fmt::Display| {
+            DriveError::Unusable(format!("{}: {what}: {error}", path.display()))
+        };
+        let about = file.metadata().map_err(|e| refused("cannot be looked at", &e))?;
+        if !about.is_file() {
+            return Err(DriveError::Unusable(format!(
+                "{}: is no regular file; name a file for the drive's image",
+                path.display()
+            )));
+        }
+        let file = lock(file).map_err(|e| refused("is used already, by this program or another", &e))?;
+        if about.len() < bytes {
+            file.set_len(bytes)
+                .map_err(|e| refused(&format!("cannot become {bytes} bytes long"), &e))?;
+        }
+        if is_new || about.len() < bytes {
+            file.sync_all().map_err(|e| refused("cannot be made durable", &e))?;
+        }
+        if is_new {
+            let folder = folder_of(path);
+            File::open(&folder)
+                .and_then(|f| f.sync_all())
+                .map_err(|e| refused("its folder cannot be made durable", &e))?;
+        }
+        warn_of_little_room(path, &file, about.blocks().saturating_mul(512), bytes);
+        let in_memory = fstatfs(&*file)
+            .map(|about| about.filesystem_type() == TMPFS_MAGIC)
+            .unwrap_or(false);
+        let words = format!(
+            "in {}{}",
+            path.display(),
+            if in_memory { ", which lies in memory" } else { "" }
+        );
+        Ok(FileStore {
+            file,
+            words,
+            bytes,
+            waits: !in_memory,
+            reads_at_once: AtomicBool::new(true),
+            writes_at_once: AtomicBool::new(true),
+            has_holes: AtomicBool::new(true),
+            // Not on tmpfs, where even a look for holes takes long.
+            has_zeros: AtomicBool::new(!in_memory),
+        })
+    }
+
+    fn fd(&self) -> RawFd {
+        self.file.as_raw_fd()
+    }
+
+    /// Moves all bytes of `places`, in as many calls as it takes.
+    fn move_all(&self, way: Way, offset: u64, places: &[VolatileSlice<'_>], flags: i32) -> io::Result<()> {
+        let mut at = offset;
+        for group in places.chunks(MOST_PLACES) {
+            let total = group.iter().map(|place| place.len()).sum::<usize>();
+            let mut done = 0;
+            while done < total {
+                match move_some(self.fd(), way, at, group, done, flags) {
+                    Ok(0) if way == Way::Read => return Err(io::ErrorKind::UnexpectedEof.into()),
+                    Ok(0) => return Err(io::ErrorKind::WriteZero.into()),
+                    Ok(moved) => {
+                        done += moved;
+                        at += moved as u64;
+                    }
+                    Err(error) if error.kind() == io::ErrorKind::Interrupted => {}
+                    Err(error) => return Err(error),
+                }
+            }
+        }
+        Ok(())
+    }
+
+    /// Moves the bytes without waiting, or says that it would wait.
+    fn move_at_once(&self, way: Way, offset: u64, places: &[VolatileSlice<'_>]) -> io::Result<()> {
+        let able = if way == Way::Read {
+            &self.reads_at_once
+        } else {
+            &self.writes_at_once
+        };
+        if !self.waits {
+            return self.move_all(way, offset, places, 0);
+        }
+        if !able.load(Ordering::Relaxed) {
+            return Err(io::ErrorKind::WouldBlock.into());
+        }
+        match self.move_all(way, offset, places, libc::RWF_NOWAIT) {
+            Err(error) if error.raw_os_error() == Some(libc::EOPNOTSUPP) => {
+                able.store(false, Ordering::Relaxed);
+                Err(io::ErrorKind::WouldBlock.into())
+            }
+            // Whether the file ends here, or its bytes have to be fetched first, the call that may wait finds out.
+            Err(error) if error.kind() == io::ErrorKind::UnexpectedEof => Err(io::ErrorKind::WouldBlock.into()),
+            moved => moved,
+        }
+    }
+
+    /// Calls `fallocate` in this way, unless the file system was found not to have it. Returns whether it was done.
+    fn allocate(&self, able: &AtomicBool, way: FallocateFlags, offset: u64, bytes: u64) -> io::Result<bool> {
+        let (from, length) = (
+            i64::try_from(offset).map_err(io::Error::other)?,
+            i64::try_from(bytes).map_err(io::Error::other)?,
+        );
+        while able.load(Ordering::Relaxed) {
+            match fallocate(self.fd(), way | FallocateFlags::FALLOC_FL_KEEP_SIZE, from, length) {
+                Ok(()) => return Ok(true),
+                Err(nix::Error::EINTR) => {}
+                Err(nix::Error::EOPNOTSUPP) => able.store(false, Ordering::Relaxed),
+                Err(error) => return Err(error.into()),
+            }
+        }
+        Ok(false)
+    }
+
+    /// The first byte from `offset` on that has no room; `offset` where that cannot be known.
+    fn next_hole(&self, offset: u64) -> u64 {
+        let at = i64::try_from(offset)
+            .ok()
+            .and_then(|from| lseek(self.fd(), from, Whence::SeekHole).ok());
+        at.and_then(|at| u64::try_from(at).ok()).unwrap_or(offset)
+    }
+
+    fn write_zeros(&self, offset: u64, bytes: u64) -> io::Result<()> {
+        let mut at = offset;
+        let end = offset + bytes;
+        while at < end {
+            let length = (end - at).min(ZEROS.len() as u64) as usize;
+            let zeros = ZEROS.get(..length).unwrap_or_default();
+            std::os::unix::fs::FileExt::write_all_at(&*self.file, zeros, at)?;
+            at += length as u64;
+        }
+        Ok(())
+    }
+}
+
+/// Which way bytes go.
+#[derive(Clone, Copy, Debug, PartialEq, Eq)]
+enum Way {
+    Read,
+    Write,
+}
+
+/// One system call: moves bytes between the file from `at` on and `places`, without the first `skip` bytes of these. Returns how many were moved.
+fn move_some(fd: RawFd, way: Way, at: u64, places: &[VolatileSlice<'_>], skip: usize, flags: i32) -> io::Result<usize> {
+    let at = libc::off_t::try_from(at).map_err(io::Error::other)?;
+    let mut vector = [libc::iovec {
+        iov_base: std::ptr::null_mut(),
+        iov_len: 0,
+    }; MOST_PLACES];
+    let mut count = 0;
+    let mut skip = skip;
+    for place in places {
+        if skip >= place.len() {
+            skip -= place.len();
+            continue;
+        }
+        let Some(slot) = vector.get_mut(count) else { break };
+        let rest = place.offset(skip).map_err(io::Error::other)?;
+        *slot = libc::iovec {
+            iov_base: rest.ptr_guard_mut().as_ptr().cast(),
+            iov_len: rest.len(),
+        };
+        skip = 0;
+        count += 1;
+    }
+    let (vector, count) = (vector.as_ptr(), count as libc::c_int);
+    // SAFETY: the first `count` elements of the vector are pointers and lengths of volatile slices, which are valid for reads and writes as long as
+    // `places` is borrowed, and to which no reference exists: others write them at any time. The kernel accesses these bytes alone, and gives EFAULT where
+    // a page has lost its file. The kernel reads the vector only.
+    let moved = unsafe {
+        match way {
+            Way::Read => libc::preadv2(fd, vector, count, at, flags),
+            Way::Write => libc::pwritev2(fd, vector, count, at, flags),
+        }
+    };
+    usize::try_from(moved).map_err(|_| io::Error::last_os_error())
+}
+
+/// Opens the image, or creates it, and says whether it is new.
+fn open_or_create(path: &Path) -> Result<(File, bool), DriveError> {
+    let refused =
+        |error: io::Error| DriveError::Unusable(format!("{}: cannot be opened or created: {error}", path.display()));
+    let open = |new: bool| {
+        let open = |flags| {
+            let mut options = OpenOptions::new();
+            options.read(true).write(true).create_new(new).mode(0o600);
+            options
+                .custom_flags(libc::O_NONBLOCK | libc::O_NOCTTY | flags)
+                .open(path)
+        };
+        // A Read that notes its time in the file may wait for the file system's log. A file of another owner can't be opened without that.
+        match open(libc::O_NOATIME) {
+            Err(error) if error.raw_os_error() == Some(libc::EPERM) => open(0),
+            opened => opened,
+        }
+    };
+    match open(false) {
+        Ok(file) => Ok((file, false)),
+        Err(error) if error.kind() == io::ErrorKind::NotFound => match open(true) {
+            Ok(file) => Ok((file, true)),
+            // Somebody was faster.
+            Err(error) if error.kind() == io::ErrorKind::AlreadyExists => {
+                open(false).map(|file| (file, false)).map_err(refused)
+            }
+            Err(error) => Err(refused(error)),
+        },
+        Err(error) => Err(refused(error)),
+    }
+}
+
+/// Locks the file against others that lock it by `flock`, and by `fcntl` as QEMU does.
+fn lock(file: File) -> io::Result<Flock<File>> {
+    let file = Flock::lock(file, FlockArg::LockExclusiveNonblock).map_err(|(_, error)| io::Error::from(error))?;
+    let whole = libc::flock {
+        l_type: libc::F_WRLCK as libc::c_short,
+        l_whence: libc::SEEK_SET as libc::c_short,
+        l_start: 0,
+        l_len: 0,
+        l_pid: 0,
+    };
+    fcntl(file.as_raw_fd(), FcntlArg::F_OFD_SETLK(&whole))?;
+    Ok(file)
+}
+
+fn folder_of(path: &Path) -> PathBuf {
+    match path.parent() {
+        Some(folder) if !folder.as_os_str().is_empty() => folder.to_path_buf(),
+        _ => PathBuf::from("."),
+    }
+}
+
+/// Says it where the file system has less room than the image may come to need.
+fn warn_of_little_room(path: &Path, file: &File, allocated: u64, bytes: u64) {
+    let Ok(about) = fstatvfs(file) else { return };
+    let free = about.blocks_available().saturating_mul(about.fragment_size());
+    let wanted = bytes.saturating_sub(allocated);
+    if free < wanted {
+        tracing::warn!(
+            "{}: may come to need {wanted} bytes more, and {free} are free: guests' writes fail when none are left",
+            path.display()
+        );
+    }
+}
+
+impl Store for FileStore {
+    fn waits(&self) -> bool {
+        self.waits
+    }
+
+    fn read(&self, offset: u64, places: &[VolatileSlice<'_>], wait: Wait) -> io::Result<()> {
+        match wait {
+            Wait::Allowed => self.move_all(Way::Read, offset, places, 0),
+            Wait::Never => self.move_at_once(Way::Read, offset, places),
+        }
+    }
+
+    fn write(&self, offset: u64, places: &[VolatileSlice<'_>], wait: Wait) -> io::Result<()> {
+        match wait {
+            Wait::Allowed => self.move_all(Way::Write, offset, places, 0),
+            Wait::Never => self.move_at_once(Way::Write, offset, places),
+        }
+    }
+
+    fn zero(&self, offset: u64, bytes: u64, gives_back: bool) -> io::Result<()> {
+        // Bytes that all have room are made zero in place where that will do: it is quicker, and writes go on meanwhile.
+        let may_keep = !gives_back && self.has_zeros.load(Ordering::Relaxed);
+        if may_keep && self.next_hole(offset) >= offset + bytes {
+            let way = FallocateFlags::FALLOC_FL_ZERO_RANGE;
+            if self.allocate(&self.has_zeros, way, offset, bytes)? {
+                return Ok(());
+            }
+        }
+        if self.allocate(&self.has_holes, FallocateFlags::FALLOC_FL_PUNCH_HOLE, offset, bytes)? {
+            return Ok(());
+        }
+        self.write_zeros(offset, bytes)
+    }
+
+    fn next_data(&self, offset: u64, end: u64) -> u64 {
+        let Ok(from) = i64::try_from(offset) else { return offset };
+        match lseek(self.fd(), from, Whence::SeekData) {
+            Ok(at) => u64::try_from(at).unwrap_or(offset).clamp(offset, end),
+            Err(nix::Error::ENXIO) => end,
+            Err(_) => offset,
+        }
+    }
+
+    fn sync(&self) -> io::Result<()> {
+        loop {
+            match self.file.sync_data() {
+                Err(error) if error.kind() == io::ErrorKind::Interrupted => {}
+                synced => return synced,
+            }
+        }
+    }
+
+    fn write_durably(&self, offset: u64, places: &[VolatileSlice<'_>]) -> io::Result<()> {
+        self.move_all(Way::Write, offset, places, libc::RWF_DSYNC)
+    }
+
+    fn check(&self) -> Result<(), String> {
+        match self.file.metadata() {
+            Ok(about) if about.len() < self.bytes => Err(format!(
+                "the image was cut off: it has {} bytes of the drive's {}",
+                about.len(),
+                self.bytes
+            )),
+            Ok(_) => Ok(()),
+            Err(error) => Err(format!("the image cannot be looked at: {error}")),
+        }
+    }
+
+    fn describe(&self) -> &str {
+        &self.words
+    }
+}

@@ -1,0 +1,324 @@
+#![forbid(unsafe_code)]
+//! The threads of a drive whose store may wait for a device: one that syncs, one that makes blocks zero, and some that move bytes.
+//!
+//! A thread takes a task, carries it out, and sends its status to the mediator's thread; an eventfd wakes that thread. Tasks of each kind wait in a queue of
+//! their own, so that no Read waits for a Flush. The mediator's thread waits for none of them, for no lock either.
+
+use std::collections::VecDeque;
+use std::io;
+use std::os::fd::{AsFd, BorrowedFd};
+use std::sync::atomic::{AtomicBool, Ordering};
+use std::sync::mpsc::{channel, Receiver, Sender};
+use std::sync::{Arc, Mutex, PoisonError};
+use std::thread::JoinHandle;
+
+use nix::sys::eventfd::{EfdFlags, EventFd};
+
+use super::carry::{Carrier, Failure, Outcome};
+use super::command::Step;
+use super::store::{Store, Wait};
+use crate::drive::entry::Status;
+use crate::drive::prp::SharedMemory;
+
+/// Threads that move bytes.
+const MOVERS: usize = 3;
+/// Bytes that are made zero by one call: others' writes to the file wait as long as it takes.
+const PIECE: u64 = 1 << 20;
+
+/// A command that was taken, and what is to be done for it.
+#[derive(Debug)]
+pub struct Task {
+    /// The lane that it came from.
+    pub lane: usize,
+    /// Its identifier.
+    pub command: u16,
+    /// What is to be done.
+    pub step: Step,
+}
+
+/// How a command went.
+#[derive(Clone, Copy, Debug)]
+pub struct Finished {
+    /// The lane that it came from.
+    pub lane: usize,
+    /// Its identifier.
+    pub command: u16,
+    /// Its status.
+    pub status: Status,
+}
+
+/// What all threads have.
+struct Shared<M> {
+    memory: Arc<M>,
+    store: Arc<dyn Store>,
+    failure: Arc<Failure>,
+    /// Whether the threads are to end: what waits is dropped.
+    ended: AtomicBool,
+    wake: EventFd,
+    /// Whether the mediator's thread was woken and has not looked yet.
+    woken: AtomicBool,
+}
+
+/// What a thread has.
+struct Worker<M> {
+    shared: Arc<Shared<M>>,
+    finished: Sender<Finished>,
+}
+
+impl<M: SharedMemory> Worker<M> {
+    fn carrier(&self) -> Carrier<'_, M> {
+        Carrier {
+            memory: &self.shared.memory,
+            store: &*self.shared.store,
+            failure: &self.shared.failure,
+        }
+    }
+
+    fn has_ended(&self) -> bool {
+        self.shared.ended.load(Ordering::Acquire)
+    }
+
+    fn finish(&self, task: &Task, status: Status) {
+        // Where nobody receives any more, the drive is being closed; and the descriptor's counter cannot be full.
+        let _ = self.finished.send(Finished {
+            lane: task.lane,
+            command: task.command,
+            status,
+        });
+        if !self.shared.woken.swap(true, Ordering::AcqRel) {
+            let _ = self.shared.wake.write(1);
+        }
+    }
+
+    /// Moves the bytes of a task.
+    fn carry_out(&self, task: &mut Task) -> Status {
+        match self.carrier().advance(&mut task.step, u64::MAX, Wait::Allowed).0 {
+            Outcome::Done(status) => status,
+            // Neither comes of a call that had all bytes and may wait.
+            Outcome::More | Outcome::WouldWait => Status::WRITE_FAULT,
+        }
+    }
+
+    fn move_tasks(&self, tasks: &Mutex<Receiver<Task>>) {
+        loop {
+            let task = tasks.lock().unwrap_or_else(PoisonError::into_inner).recv();
+            match task {
+                Ok(mut task) if !self.has_ended() => {
+                    let status = self.carry_out(&mut task);
+                    self.finish(&task, status);
+                }
+                _ => return,
+            }
+        }
+    }
+
+    /// Makes a piece of each task zero, in turn.
+    fn clear_tasks(&self, tasks: &Receiver<Task>, syncs: &Sender<Task>) {
+        let mut begun = VecDeque::new();
+        while !self.has_ended() {
+            if begun.is_empty() {
+                match tasks.recv() {
+                    Ok(task) => begun.push_back(task),
+                    Err(_) => return,
+                }
+            }
+            begun.extend(tasks.try_iter());
+            let Some(mut task) = begun.pop_front() else { continue };
+            match self.carrier().advance(&mut task.step, PIECE, Wait::Allowed).0 {
+                Outcome::More => begun.push_back(task),
+                Outcome::Done(status) if status.is_good() && task.step.is_forced() => {
+                    // Where nobody receives any more, the drive is being closed.
+                    let _ = syncs.send(Task {
+                        step: Step::Sync,
+                        ..task
+                    });
+                }
+                Outcome::Done(status) => self.finish(&task, status),
+                Outcome::WouldWait => self.finish(&task, Status::WRITE_FAULT),
+            }
+        }
+    }
+
+    /// Takes all that waits to be durable: one sync serves all of it.
+    fn sync_tasks(&self, tasks: &Receiver<Task>) {
+        while let Ok(first) = tasks.recv() {
+            if self.has_ended() {
+                return;
+            }
+            let mut batch = vec![first];
+            batch.extend(tasks.try_iter());
+            if let [task] = batch.as_mut_slice() {
+                if let Step::Transfer(transfer) = &mut task.step {
+                    if transfer.changes() {
+                        let status = self.carrier().write_durably(transfer);
+                        self.finish(task, status);
+                        continue;
+                    }
+                }
+            }
+            self.sync_batch(batch);
+        }
+    }
+
+    /// Writes what is to be written, syncs once, and reads what is to be read then: a forced Read makes its blocks durable first.
+    fn sync_batch(&self, batch: Vec<Task>) {
+        let is_read = |task: &Task| matches!(task.step, Step::Transfer(_)) && !task.step.changes();
+        let (reads, writes): (Vec<Task>, Vec<Task>) = batch.into_iter().partition(is_read);
+        let mut written = Vec::with_capacity(writes.len());
+        for mut task in writes {
+            let status = if task.step.changes() {
+                self.carry_out(&mut task)
+            } else {
+                Status::GOOD
+            };
+            if status.is_good() {
+                written.push(task);
+            } else {
+                self.finish(&task, status);
+            }
+        }
+        let status = self.carrier().sync();
+        written.iter().for_each(|task| self.finish(task, status));
+        for mut task in reads {
+            // A drive that cannot make them durable still says what it has.
+            let status = self.carry_out(&mut task);
+            self.finish(&task, status);
+        }
+    }
+}
+
+/// The threads, and what they have finished.
+pub struct Threads<M> {
+    shared: Arc<Shared<M>>,
+    queues: Option<Queues>,
+    finished: Receiver<Finished>,
+    handles: Vec<JoinHandle<()>>,
+    /// Tasks that were given to the threads and whose end was not collected.
+    given: usize,
+}
+
+/// Where tasks are given to the threads.
+struct Queues {
+    moves: Sender<Task>,
+    clears: Sender<Task>,
+    syncs: Sender<Task>,
+}
+
+impl<M: SharedMemory + 'static> Threads<M> {
+    /// Starts the threads where the store may wait; otherwise there are none, and nothing may be given to them.
+    ///
+    /// # Errors
+    ///
+    /// Where the system gives no thread or descriptor.
+    pub fn start(memory: Arc<M>, store: Arc<dyn Store>, failure: Arc<Failure>) -> io::Result<Threads<M>> {
+        let wake = EventFd::from_flags(EfdFlags::EFD_CLOEXEC | EfdFlags::EFD_NONBLOCK)?;
+        let waits = store.waits();
+        let (ended, woken) = (AtomicBool::new(false), AtomicBool::new(false));
+        let shared = Arc::new(Shared {
+            memory,
+            store,
+            failure,
+            ended,
+            wake,
+            woken,
+        });
+        let (sender, finished) = channel();
+        let mut threads = Threads {
+            shared,
+            queues: None,
+            finished,
+            handles: Vec::new(),
+            given: 0,
+        };
+        if waits {
+            let (moves, for_movers) = channel();
+            let (clears, for_clearer) = channel();
+            let (syncs, for_syncer) = channel();
+            let to_syncer = syncs.clone();
+            let for_movers = Arc::new(Mutex::new(for_movers));
+            threads.queues = Some(Queues { moves, clears, syncs });
+            for _ in 0..MOVERS {
+                let tasks = Arc::clone(&for_movers);
+                threads.spawn("drive-moves", &sender, move |worker| worker.move_tasks(&tasks))?;
+            }
+            threads.spawn("drive-clears", &sender, move |worker| {
+                worker.clear_tasks(&for_clearer, &to_syncer)
+            })?;
+            threads.spawn("drive-syncs", &sender, move |worker| worker.sync_tasks(&for_syncer))?;
+        }
+        Ok(threads)
+    }
+
+    fn spawn(
+        &mut self,
+        name: &str,
+        finished: &Sender<Finished>,
+        run: impl FnOnce(&Worker<M>) + Send + 'static,
+    ) -> io::Result<()> {
+        let worker = Worker {
+            shared: Arc::clone(&self.shared),
+            finished: finished.clone(),
+        };
+        self.handles.push(
+            std::thread::Builder::new()
+                .name(name.to_owned())
+                .spawn(move || run(&worker))?,
+        );
+        Ok(())
+    }
+}
+
+impl<M> Threads<M> {
+    /// Gives a task to the threads. False, and nothing happens, where there are none.
+    #[must_use]
+    pub fn give(&mut self, task: Task) -> bool {
+        let Some(queues) = &self.queues else { return false };
+        let queue = match &task.step {
+            Step::Clear(_) => &queues.clears,
+            Step::Transfer(transfer) if !transfer.forced => &queues.moves,
+            Step::Transfer(_) | Step::Sync => &queues.syncs,
+        };
+        let is_given = queue.send(task).is_ok();
+        self.given += usize::from(is_given);
+        is_given
+    }
+
+    /// The next task that was finished, if there is one.
+    pub fn collect(&mut self) -> Option<Finished> {
+        if self.given == 0 {
+            return None;
+        }
+        let finished = self.finished.try_recv().ok()?;
+        self.given -= 1;
+        Some(finished)
+    }
+
+    /// Becomes readable where tasks were finished.
+    pub fn wake(&self) -> BorrowedFd<'_> {
+        self.shared.wake.as_fd()
+    }
+
+    /// Takes what made it readable. What is finished from now on makes it readable again.
+    pub fn woken(&self) {
+        // Nothing to read is no error.
+        let _ = self.shared.wake.read();
+        self.shared.woken.store(false, Ordering::Release);
+    }
+
+    /// Waits until each thread has carried out what it is at, and ends them. What waits is dropped.
+    pub fn end(&mut self) {
+        self.shared.ended.store(true, Ordering::Release);
+        self.queues = None;
+        for handle in self.handles.drain(..) {
+            if handle.join().is_err() {
+                tracing::error!("a thread of the drive ended by a panic");
+            }
+        }
+    }
+}
+
+impl<M> Drop for Threads<M> {
+    fn drop(&mut self) {
+        self.end();
+    }
+}

@@ -1,0 +1,89 @@
+//! `recvmsg` and `sendmsg` with descriptors, on sockets that do not block.
+
+use std::mem::size_of;
+use std::os::fd::{AsFd, AsRawFd, BorrowedFd, FromRawFd, OwnedFd, RawFd};
+
+use nix::errno::Errno;
+use nix::sys::socket::{sendmsg, ControlMessage, MsgFlags};
+use std::io::IoSlice;
+
+use super::wire::DESCRIPTORS_MAX;
+
+/// What one `recvmsg` gave.
+#[derive(Debug)]
+pub struct Received {
+    /// So many bytes; 0 is the end of the stream.
+    pub bytes: usize,
+    /// The descriptors that came with them, which are closed when they are dropped. None is left open by an exec.
+    pub descriptors: Vec<OwnedFd>,
+    /// More descriptors came than were taken; the kernel has closed the others.
+    pub lost: bool,
+}
+
+/// Bytes of a header of ancillary data and [`DESCRIPTORS_MAX`] descriptors, in units of its alignment.
+const CONTROL_WORDS: usize =
+    (size_of::<libc::cmsghdr>() + DESCRIPTORS_MAX * size_of::<RawFd>()).div_ceil(size_of::<u64>());
+
+/// Receives what is there, without waiting: EAGAIN where nothing is.
+pub fn receive(socket: BorrowedFd<'_>, room: &mut [u8]) -> Result<Received, Errno> {
+    let mut control = [0u64; CONTROL_WORDS];
+    let mut part = libc::iovec {
+        iov_base: room.as_mut_ptr().cast(),
+        iov_len: room.len(),
+    };
+    // SAFETY: zeros are a msghdr with nothing in it.
+    let mut header: libc::msghdr = unsafe { std::mem::zeroed() };
+    header.msg_iov = &raw mut part;
+    header.msg_iovlen = 1;
+    header.msg_control = control.as_mut_ptr().cast();
+    header.msg_controllen = size_of_val(&control) as _;
+    let flags = libc::MSG_DONTWAIT | libc::MSG_CMSG_CLOEXEC;
+    // SAFETY: the header names `room` and `control` with their lengths; both are writable and live through the call.
+    let result = unsafe { libc::recvmsg(socket.as_raw_fd(), &raw mut header, flags) };
+    let bytes = Errno::result(result)? as usize;
+    // SAFETY: the kernel has filled the header's control data just now, and nobody took the descriptors in it.
+    let descriptors = unsafe { take_descriptors(&header) };
+    Ok(Received {
+        bytes,
+        descriptors,
+        lost: header.msg_flags & libc::MSG_CTRUNC != 0,
+    })
+}
+
+/// The descriptors in the ancillary data of a message that `recvmsg` has filled.
+///
+/// # Safety
+///
+/// The header's control data is what a `recvmsg` has put there. This is called once for it: the descriptors have one owner.
+unsafe fn take_descriptors(header: &libc::msghdr) -> Vec<OwnedFd> {
+    let mut descriptors = Vec::new();
+    // SAFETY: the control data lies within the length that the header says.
+    let mut next = unsafe { libc::CMSG_FIRSTHDR(header) };
+    while !next.is_null() {
+        // SAFETY: CMSG_FIRSTHDR and CMSG_NXTHDR give headers within the control data, which is aligned for them.
+        let (about, data) = unsafe { (&*next, libc::CMSG_DATA(next)) };
+        if about.cmsg_level == libc::SOL_SOCKET && about.cmsg_type == libc::SCM_RIGHTS {
+            // SAFETY: it only computes a length.
+            let head = unsafe { libc::CMSG_LEN(0) } as usize;
+            let count = about.cmsg_len.saturating_sub(head) / size_of::<RawFd>();
+            for index in 0..count {
+                // SAFETY: the kernel has put `count` descriptors after the header; they may be unaligned.
+                let raw = unsafe { data.cast::<RawFd>().add(index).read_unaligned() };
+                // SAFETY: the kernel has opened it for this process, and nobody else owns it.
+                descriptors.push(unsafe { OwnedFd::from_raw_fd(raw) });
+            }
+        }
+        // SAFETY: `next` is a header of this control data.
+        next = unsafe { libc::CMSG_NXTHDR(header, next) };
+    }
+    descriptors
+}
+
+/// Sends bytes, and a descriptor with the first of them, without waiting: EAGAIN where there is no room. Says how many bytes were sent.
+pub fn send(socket: BorrowedFd<'_>, bytes: &[u8], descriptor: Option<BorrowedFd<'_>>) -> Result<usize, Errno> {
+    let raw: Vec<RawFd> = descriptor.iter().map(|descriptor| descriptor.as_raw_fd()).collect();
+    let rights = [ControlMessage::ScmRights(&raw)];
+    let control = if raw.is_empty() { &rights[..0] } else { &rights[..] };
+    let flags = MsgFlags::MSG_DONTWAIT | MsgFlags::MSG_NOSIGNAL;
+    sendmsg::<()>(socket.as_fd().as_raw_fd(), &[IoSlice::new(bytes)], control, flags, None)
+}
