@@ -3,6 +3,8 @@
 //! `NVMED_QTEST` is the socket; `NVMED_AREA` and `NVMED_GUEST` are files of 32 MiB, which are QEMU's RAM in this order; `NVMED_IMAGE` is its disk. Data of
 //! the test lie in the first file, and at last in the second. `NVMED_QEMU` is QEMU's process, which is stopped for a while.
 
+#![allow(clippy::unwrap_used, clippy::expect_used, clippy::panic)]
+
 use std::fs::File;
 use std::os::fd::AsFd;
 use std::os::unix::fs::FileExt;
