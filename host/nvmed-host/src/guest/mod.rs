@@ -19,9 +19,9 @@ use nix::poll::{poll, PollFd, PollFlags, PollTimeout};
 
 use crate::doorbells::{Page, PageError};
 use crate::interrupts::{InterruptError, Signals};
+use crate::machine::Machine;
 use crate::mediation::mailbox::Gone;
 use crate::mediation::outbox::{News, Outbox};
-use crate::machine::Machine;
 use crate::mediation::wake::Bell;
 use crate::memory::{GuestMemory, MapRequest};
 use crate::process::{Listener, Process, ProcessError, STOP_WAIT};
@@ -223,8 +223,10 @@ impl Guest {
                 Ok(never) => match never {},
                 Err(lost) => lost,
             };
-            if !lost.is_end() {
-                self.lines.warn(&lost);
+            match lost {
+                Lost::Connection(ConnectionError::Closed) => self.lines.say(&lost),
+                Lost::Stop | Lost::Gone(_) => {}
+                _ => self.lines.warn(&lost),
             }
             if self.end_connection().is_err() || lost.is_end() {
                 break;
