@@ -11,6 +11,7 @@ use std::sync::Arc;
 use std::time::{Duration, Instant};
 
 use nix::poll::{poll, PollFd, PollFlags, PollTimeout};
+use nix::sys::time::TimeValLike;
 use nvmed_host::drive::prp::SharedMemory;
 use nvmed_host::drive::ram::RamDrive;
 use nvmed_host::drive::{Budget, Drive, LaneRings};
@@ -186,6 +187,30 @@ impl Driver {
     }
 }
 
+/// Processor time of this process, of all its threads.
+fn processor_time() -> Result<Duration, Failure> {
+    let used = nix::sys::resource::getrusage(nix::sys::resource::UsageWho::RUSAGE_SELF)?;
+    let both = used.user_time() + used.system_time();
+    Ok(Duration::from_micros(u64::try_from(both.num_microseconds())?))
+}
+
+/// What a command of 4 KiB costs, where 16 are outstanding: processor time of the whole process, with the driver's side of it.
+fn cost(driver: &mut Driver, what: &str, opcode: u8) -> Result<(), Failure> {
+    const COMMANDS: u64 = 100_000;
+    let begin = processor_time()?;
+    for i in 0..COMMANDS {
+        while driver.begun.len() >= 16 {
+            driver.turn()?;
+        }
+        driver.put(opcode, VICTIM, 0, (i * 7919 % (FIRST / 8)) * 8, 7)?;
+        driver.ring()?;
+    }
+    driver.wait()?;
+    let each = (processor_time()? - begin).as_secs_f64() * 1e6 / COMMANDS as f64;
+    println!("{what} of 4 KiB, 16 outstanding: {each:.2} us of processor time each");
+    Ok(())
+}
+
 fn main() -> Result<(), Failure> {
     let image = std::env::args_os().nth(1).map(PathBuf::from);
     let memory = Arc::new(Memory(MmapRegion::new(MEMORY)?));
@@ -255,6 +280,8 @@ fn main() -> Result<(), Failure> {
     driver.measure("60 Writes of 128 KiB", few)?;
     driver.put(2, VICTIM, 0, 0, 7)?;
     driver.measure("a Read of 4 KiB", few)?;
+    cost(&mut driver, "Reads", 2)?;
+    cost(&mut driver, "Writes", 1)?;
     let begin = Instant::now();
     driver.drive.close()?;
     println!("close: {:.1} ms", begin.elapsed().as_secs_f64() * 1e3);

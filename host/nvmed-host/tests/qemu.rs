@@ -5,13 +5,17 @@
 use std::collections::BTreeSet;
 use std::ffi::OsString;
 use std::io::{Read, Write};
+use std::os::fd::{AsFd, OwnedFd};
 use std::os::unix::net::UnixStream;
 use std::process::{Command, Stdio};
+use std::sync::Arc;
 use std::time::{Duration, Instant};
 
-use nvmed_host::machine::{regions, Machine, RamRegion, LEGACY_HOLE};
-use nvmed_host::memory::GuestFile;
-use nvmed_host::process::{Process, STOP_WAIT};
+use nix::poll::{poll, PollFd, PollTimeout};
+use nvmed_host::machine::{regions, Machine, RamRegion, HIGH, LEGACY_HOLE};
+use nvmed_host::memory::{GuestFile, GuestMemory, MapRequest, Window};
+use nvmed_host::process::{Listener, Process, STOP_WAIT};
+use nvmed_host::vfio_user::{pci_irq, pci_region, Answer, Connection, Device, Irq, Region, Request};
 
 const MIB: u64 = 1 << 20;
 
@@ -97,6 +101,19 @@ fn machines_have_their_ram_where_it_is_expected() {
     }
 }
 
+/// The connection of a QEMU that was started.
+fn accept(process: &mut Process, listener: &Listener) -> OwnedFd {
+    let begin = Instant::now();
+    loop {
+        assert_eq!(process.ended(), None);
+        assert!(begin.elapsed() < Duration::from_secs(60));
+        match listener.accept().unwrap() {
+            Some(socket) => return socket,
+            None => std::thread::sleep(Duration::from_millis(5)),
+        }
+    }
+}
+
 /// A QEMU that is started connects, maps the guest's file, and has the machine that it should have, whatever its own words say.
 #[test]
 fn a_qemu_that_is_started() {
@@ -113,15 +130,7 @@ fn a_qemu_that_is_started() {
         words.extend(["-S", "-display", "none"].iter().chain(own).map(OsString::from));
         let memory = GuestFile::make(256 * MIB).unwrap();
         let (mut process, listener) = Process::start(&words, machine, &memory).unwrap();
-        let begin = Instant::now();
-        let mut socket = loop {
-            assert_eq!(process.ended(), None);
-            assert!(begin.elapsed() < Duration::from_secs(60));
-            match listener.accept().unwrap() {
-                Some(socket) => break UnixStream::from(socket),
-                None => std::thread::sleep(Duration::from_millis(5)),
-            }
-        };
+        let mut socket = UnixStream::from(accept(&mut process, &listener));
         // the first message: VERSION, command 1
         let mut header = [0; 16];
         socket.read_exact(&mut header).unwrap();
@@ -134,4 +143,135 @@ fn a_qemu_that_is_started() {
         assert_eq!(hex(end) - hex(start), 256 * MIB);
         assert_eq!(process.stop(STOP_WAIT).unwrap().to_string(), "ended by signal 15");
     }
+}
+
+/// Configuration space of a device for which no firmware has a driver.
+fn config() -> [u8; 256] {
+    let mut config = [0; 256];
+    config[..12].copy_from_slice(&[0x36, 0x1b, 0xf0, 0x0f, 0, 0, 0, 0, 1, 0, 0, 0xff]);
+    config
+}
+
+/// A device of which nothing is asked but its memory.
+fn device() -> Arc<Device> {
+    let mut all = vec![Region::none(); pci_region::COUNT];
+    all[pci_region::BAR0 as usize] = Region::of(0x4000);
+    all[pci_region::CONFIG as usize] = Region::of(256);
+    Arc::new(Device::new(all, vec![Irq::NONE; pci_irq::COUNT]).unwrap())
+}
+
+/// What was shown: parts that can be read alone, whether the low region came as one part, and what was refused.
+#[derive(Debug, Default)]
+struct Shown {
+    parts: u32,
+    read_only: u32,
+    refused: Vec<String>,
+}
+
+/// Answers a QEMU for a while, and compares what it shows.
+fn serve(socket: OwnedFd, memory: &mut GuestMemory, time: Duration) -> Shown {
+    let mut connection = Connection::new(socket, device()).unwrap();
+    let mut shown = Shown::default();
+    let config = config();
+    let begin = Instant::now();
+    while begin.elapsed() < time {
+        let mut fds = [PollFd::new(connection.as_fd(), connection.events())];
+        poll(&mut fds, PollTimeout::from(100_u8)).unwrap();
+        let found = fds[0].revents().unwrap();
+        if connection.ready(found).is_err() {
+            break;
+        }
+        while let Ok(Some((request, ticket))) = connection.next_request() {
+            let answer = match request {
+                Request::DmaMap(map) => match map.fd {
+                    None => {
+                        memory.map_without_file(map.address, map.bytes);
+                        Answer::Done
+                    }
+                    Some(fd) => {
+                        let (address, bytes, offset) = (map.address, map.bytes, map.offset);
+                        let (readable, writable) = (map.readable, map.writable);
+                        shown.parts += 1;
+                        shown.read_only += u32::from(!writable);
+                        match memory.map(
+                            &MapRequest {
+                                address,
+                                bytes,
+                                offset,
+                                readable,
+                                writable,
+                            },
+                            fd,
+                        ) {
+                            Ok(_) => Answer::Done,
+                            Err(error) => {
+                                shown.refused.push(error.to_string());
+                                Answer::Refused(nix::errno::Errno::from_raw(error.errno()))
+                            }
+                        }
+                    }
+                },
+                Request::RegionRead(read) if read.region == pci_region::CONFIG => {
+                    Answer::Data(&config[read.offset as usize..][..read.count as usize])
+                }
+                Request::RegionRead(read) => Answer::Data(&[0; 4096][..read.count as usize]),
+                _ => Answer::Done,
+            };
+            if connection.answer(ticket, answer).is_err() {
+                break;
+            }
+        }
+    }
+    shown
+}
+
+/// All that a machine shows while its firmware runs is as it is expected, for each type, small and with memory above 4 GiB.
+#[test]
+fn what_machines_show_is_taken() {
+    let Some(qemu) = qemu() else {
+        return eprintln!("left out: NVMED_QEMU names no QEMU");
+    };
+    for (machine, bytes) in [
+        (Machine::Q35, 256 * MIB),
+        (Machine::Pc, 256 * MIB),
+        (Machine::Q35, 2816 * MIB),
+        (Machine::Pc, 3584 * MIB),
+        (Machine::Q35, 5120 * MIB),
+        (Machine::Pc, 5120 * MIB),
+    ] {
+        let mut words = qemu.clone();
+        words.extend(["-display", "none"].map(OsString::from));
+        let file = GuestFile::make(bytes).unwrap();
+        let window = Window::reserve(bytes).unwrap();
+        let (mut process, listener) = Process::start(&words, machine, &file).unwrap();
+        let mut memory = GuestMemory::with_file(window, machine, 0, file).unwrap();
+        let socket = accept(&mut process, &listener);
+        let shown = serve(socket, &mut memory, Duration::from_secs(3));
+        assert_eq!(shown.refused, [""; 0], "{machine} {bytes:#x}");
+        // the firmware has remapped the hole
+        assert!(shown.parts > 6 && shown.read_only > 0, "{shown:?}");
+        assert!(memory.is_complete(), "{machine} {bytes:#x}: {:?}", memory.waits_for());
+        assert_eq!(process.ended(), None);
+    }
+}
+
+/// A machine of another type than the configuration says is refused, in words, and its QEMU ends.
+#[test]
+fn a_machine_of_the_wrong_type_is_refused() {
+    let Some(qemu) = qemu() else {
+        return eprintln!("left out: NVMED_QEMU names no QEMU");
+    };
+    let bytes = 4096 * MIB;
+    let mut words = qemu.clone();
+    words.extend(["-display", "none", "-M", "pc"].map(OsString::from));
+    let file = GuestFile::make(bytes).unwrap();
+    let window = Window::reserve(bytes).unwrap();
+    let (mut process, listener) = Process::start(&words, Machine::Q35, &file).unwrap();
+    let mut memory = GuestMemory::with_file(window, Machine::Q35, 0, file).unwrap();
+    let socket = accept(&mut process, &listener);
+    let shown = serve(socket, &mut memory, Duration::from_secs(3));
+    let high = shown.refused.iter().find(|text| text.contains(&format!("{HIGH:#x}")));
+    assert!(high.is_some(), "{shown:?}");
+    assert!(!memory.is_complete());
+    eprintln!("{:?}, {:?}: {:?}", process.ended(), memory.waits_for(), shown.refused);
 }

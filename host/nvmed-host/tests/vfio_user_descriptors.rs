@@ -1,4 +1,4 @@
-//! How many descriptors a client can have opened here. There is one test alone, since the limit and the count are the process's.
+//! How many descriptors a client can have opened here, and signals. There is one test alone, since limits, counts and signals are the process's.
 #![allow(clippy::unwrap_used, clippy::expect_used, clippy::panic)]
 
 mod client;
@@ -9,6 +9,7 @@ use std::os::fd::{AsFd, AsRawFd, BorrowedFd};
 use client::*;
 use nix::poll::{PollFlags, PollTimeout};
 use nix::sys::resource::{getrlimit, setrlimit, Resource};
+use nix::sys::signal::{signal, SigHandler, Signal};
 use nvmed_host::vfio_user::wire::FramingError;
 use nvmed_host::vfio_user::{Connection, Error};
 use vfio_user::*;
@@ -89,8 +90,23 @@ fn replaced() {
     assert_eq!(open_descriptors(), before);
 }
 
+/// A client that is gone when its reply is written ends its connection, not the program.
+fn no_signal() {
+    let (mut client, mut connection, mut state) = begun();
+    // SAFETY: no handler is set: it is the action that a program has which says nothing of it.
+    unsafe { signal(Signal::SIGPIPE, SigHandler::SigDfl) }.unwrap();
+    client.send(command::RESET, 0, &[], &[]).unwrap();
+    connection.ready(PollFlags::POLLIN).unwrap();
+    let (request, ticket) = connection.next_request().unwrap().unwrap();
+    drop(client);
+    assert_eq!(state.answer(&mut connection, request, ticket), Err(Error::Closed));
+    // SAFETY: as above.
+    unsafe { signal(Signal::SIGPIPE, SigHandler::SigIgn) }.unwrap();
+}
+
 #[test]
 fn open_here() {
+    no_signal();
     lost();
     hoarded();
     replaced();

@@ -87,3 +87,52 @@ pub fn send(socket: BorrowedFd<'_>, bytes: &[u8], descriptor: Option<BorrowedFd<
     let flags = MsgFlags::MSG_DONTWAIT | MsgFlags::MSG_NOSIGNAL;
     sendmsg::<()>(socket.as_fd().as_raw_fd(), &[IoSlice::new(bytes)], control, flags, None)
 }
+
+#[cfg(test)]
+mod tests {
+    use std::os::unix::net::UnixStream;
+    use std::time::{Duration, Instant};
+
+    use super::*;
+
+    /// A pair of sockets that block, but not for ever.
+    fn pair() -> (UnixStream, UnixStream) {
+        let pair = UnixStream::pair().unwrap();
+        for socket in [&pair.0, &pair.1] {
+            socket.set_read_timeout(Some(Duration::from_secs(2))).unwrap();
+            socket.set_write_timeout(Some(Duration::from_secs(2))).unwrap();
+        }
+        pair
+    }
+
+    /// No call waits, also where the socket itself would.
+    #[test]
+    fn nothing_waits() {
+        let (one, _other) = pair();
+        let begin = Instant::now();
+        assert_eq!(receive(one.as_fd(), &mut [0; 16]).unwrap_err(), Errno::EAGAIN);
+        while send(one.as_fd(), &[0; 4096], None).is_ok() {}
+        assert_eq!(send(one.as_fd(), &[0; 4096], None), Err(Errno::EAGAIN));
+        assert!(begin.elapsed() < Duration::from_secs(1));
+    }
+
+    #[test]
+    fn bytes_and_descriptors() {
+        let (one, other) = pair();
+        assert_eq!(send(one.as_fd(), b"first", None), Ok(5));
+        assert_eq!(send(one.as_fd(), b"second", Some(other.as_fd())), Ok(6));
+        assert_eq!(send(one.as_fd(), b"third", None), Ok(5));
+        let mut room = [0; 100];
+        let received = receive(other.as_fd(), &mut room).unwrap();
+        assert_eq!(
+            (received.bytes, received.descriptors.len(), received.lost),
+            (11, 1, false)
+        );
+        assert_eq!(&room[..11], b"firstsecond");
+        let received = receive(other.as_fd(), &mut room).unwrap();
+        assert_eq!((received.bytes, received.descriptors.len()), (5, 0));
+        drop(one);
+        assert_eq!(receive(other.as_fd(), &mut room).map(|received| received.bytes), Ok(0));
+        assert_eq!(send(other.as_fd(), b"x", None), Err(Errno::EPIPE));
+    }
+}

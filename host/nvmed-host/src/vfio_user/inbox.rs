@@ -162,7 +162,6 @@ impl Inbox {
             self.from = 0;
             self.to = 0;
         }
-        self.partial_since = None;
         self.note_partial();
     }
 }

@@ -136,9 +136,18 @@ impl Capabilities {
             ));
         }
         let disable_wait = halves((cap >> 24 & 0xff) as u32);
-        let ready_wait =
-            if with_media_timeout(cap) { disable_wait.max(halves(crto & 0xffff)) } else { disable_wait };
-        Ok(Self { most_entries, stride, ready_wait, disable_wait, version })
+        let ready_wait = if with_media_timeout(cap) {
+            disable_wait.max(halves(crto & 0xffff))
+        } else {
+            disable_wait
+        };
+        Ok(Self {
+            most_entries,
+            stride,
+            ready_wait,
+            disable_wait,
+            version,
+        })
     }
 }
 

@@ -41,7 +41,10 @@ impl Answer {
     /// What a message says of a refused command.
     pub fn refusal(&self) -> String {
         let (kind, code) = (self.status >> 8 & 7, self.status & 0xff);
-        format!("the controller refused {}: status code type {kind}, status code {code:#04x}", self.command.name())
+        format!(
+            "the controller refused {}: status code type {kind}, status code {code:#04x}",
+            self.command.name()
+        )
     }
 }
 
@@ -75,7 +78,16 @@ fn distance(from: u32, to: u32) -> u32 {
 impl AdminQueue {
     /// Queues at host address `base`, with doorbells `stride` bytes apart. They are to be cleared before they are used.
     pub fn new(base: u64, stride: u32) -> Self {
-        Self { base, stride, tail: 0, head: 0, fetched: 0, phase: true, last_id: 0, outstanding: Vec::new() }
+        Self {
+            base,
+            stride,
+            tail: 0,
+            head: 0,
+            fetched: 0,
+            phase: true,
+            last_id: 0,
+            outstanding: Vec::new(),
+        }
     }
 
     /// Host address of the page for data.
@@ -100,7 +112,12 @@ impl AdminQueue {
     }
 
     /// Gives a command to the controller. The page for data is cleared before, where the command has some.
-    pub fn ask(&mut self, access: &mut dyn Access, memory: &dyn DriveMemory, command: Command) -> Result<(), DriveError> {
+    pub fn ask(
+        &mut self,
+        access: &mut dyn Access,
+        memory: &dyn DriveMemory,
+        command: Command,
+    ) -> Result<(), DriveError> {
         if self.outstanding.len() >= ADMIN_ENTRIES as usize - 1 {
             return failed("the admin queue is full".into());
         }
@@ -111,7 +128,11 @@ impl AdminQueue {
         let entry = command.entry(id, self.data());
         store(memory, self.base + u64::from(self.tail) * ENTRY_BYTES as u64, &entry)?;
         self.tail = next(self.tail);
-        self.outstanding.push(Outstanding { id, command, since: access.now() });
+        self.outstanding.push(Outstanding {
+            id,
+            command,
+            since: access.now(),
+        });
         access.write(DOORBELLS, self.tail)
     }
 
@@ -137,12 +158,16 @@ impl AdminQueue {
     fn check(&mut self, last: u32, entry: &[u8; 12]) -> Result<Answer, DriveError> {
         let (id, queue, head) = ((last & 0xffff) as u16, get16(entry, 10), u32::from(get16(entry, 8)));
         let Some(place) = self.outstanding.iter().position(|o| o.id == id) else {
-            return failed(format!("the controller completed admin command {id}, which it does not have"));
+            return failed(format!(
+                "the controller completed admin command {id}, which it does not have"
+            ));
         };
         let command = self.outstanding.swap_remove(place).command;
         let name = command.name();
         if queue != 0 {
-            return failed(format!("the controller completed {name} for queue {queue}, not for the admin queue"));
+            return failed(format!(
+                "the controller completed {name} for queue {queue}, not for the admin queue"
+            ));
         }
         if head >= ADMIN_ENTRIES || distance(self.fetched, head) > distance(self.fetched, self.tail) {
             return failed(format!(
@@ -151,7 +176,11 @@ impl AdminQueue {
             ));
         }
         self.fetched = head;
-        Ok(Answer { command, result: get32(entry, 0), status: (last >> 17 & 0x7ff) as u16 })
+        Ok(Answer {
+            command,
+            result: get32(entry, 0),
+            status: (last >> 17 & 0x7ff) as u16,
+        })
     }
 
     /// A command that was not answered in time. Asynchronous event requests have no limit.

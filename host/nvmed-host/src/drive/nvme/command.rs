@@ -97,13 +97,20 @@ impl Command {
     pub fn may_be_refused(&self) -> bool {
         matches!(
             self,
-            Self::IdentifyLimits | Self::EventConfiguration { .. } | Self::Log { .. } | Self::Abort { .. } | Self::Event
+            Self::IdentifyLimits
+                | Self::EventConfiguration { .. }
+                | Self::Log { .. }
+                | Self::Abort { .. }
+                | Self::Event
         )
     }
 
     /// Whether the controller writes the page for data.
     pub fn gives_data(&self) -> bool {
-        matches!(self, Self::IdentifyController | Self::IdentifyNamespace | Self::IdentifyLimits | Self::Log { .. })
+        matches!(
+            self,
+            Self::IdentifyController | Self::IdentifyNamespace | Self::IdentifyLimits | Self::Log { .. }
+        )
     }
 
     /// The entry for it. `data` is the host address of the page for data.
@@ -118,12 +125,25 @@ impl Command {
                 (0x09, 0, 0, 0x07, wish << 16 | wish)
             }
             Self::EventConfiguration { events } => (0x09, 0, 0, 0x0b, events),
-            Self::CreateCompletion { pair, ring, entries, interrupts } => {
-                (0x05, 0, ring, size(entries) | u32::from(pair), 1 | u32::from(interrupts) << 1)
-            }
-            Self::CreateSubmission { pair, ring, entries } => {
-                (0x01, 0, ring, size(entries) | u32::from(pair), u32::from(pair) << 16 | 1)
-            }
+            Self::CreateCompletion {
+                pair,
+                ring,
+                entries,
+                interrupts,
+            } => (
+                0x05,
+                0,
+                ring,
+                size(entries) | u32::from(pair),
+                1 | u32::from(interrupts) << 1,
+            ),
+            Self::CreateSubmission { pair, ring, entries } => (
+                0x01,
+                0,
+                ring,
+                size(entries) | u32::from(pair),
+                u32::from(pair) << 16 | 1,
+            ),
             Self::DeleteSubmission { pair } => (0x00, 0, 0, u32::from(pair), 0),
             Self::DeleteCompletion { pair } => (0x04, 0, 0, u32::from(pair), 0),
             Self::Log { page } => (0x02, ALL_NAMESPACES, data, 127 << 16 | u32::from(page), 0),

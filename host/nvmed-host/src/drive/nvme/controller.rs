@@ -70,7 +70,15 @@ pub struct Found {
 impl fmt::Display for Found {
     fn fmt(&self, f: &mut fmt::Formatter<'_>) -> fmt::Result {
         let (c, l, v) = (&self.controller, &self.limits, self.version);
-        write!(f, "{}, serial {}, firmware {}, NVMe {}.{}, ", c.model, c.serial, c.firmware, v >> 16, v >> 8 & 0xff)?;
+        write!(
+            f,
+            "{}, serial {}, firmware {}, NVMe {}.{}, ",
+            c.model,
+            c.serial,
+            c.firmware,
+            v >> 16,
+            v >> 8 & 0xff
+        )?;
         write!(f, "{} blocks", self.namespace.blocks)?;
         let optional = [
             (c.compare, "Compare"),
@@ -221,7 +229,11 @@ impl<A: Access> Controller<A> {
         let low = self.access.read(property::CAP)?;
         let cap = u64::from(low) | u64::from(self.access.read(property::CAP + 4)?) << 32;
         let version = self.access.read(property::VS)?;
-        let crto = if cap != u64::MAX && with_media_timeout(cap) { self.access.read(property::CRTO)? } else { 0 };
+        let crto = if cap != u64::MAX && with_media_timeout(cap) {
+            self.access.read(property::CRTO)?
+        } else {
+            0
+        };
         let found = Capabilities::of(cap, crto, version, self.needs.lanes, self.access.bytes())?;
         self.admin = AdminQueue::new(self.needs.admin, found.stride);
         self.found.version = version;
@@ -240,14 +252,19 @@ impl<A: Access> Controller<A> {
         if self.found.version >= 0x1_0400 {
             steps.push(Step::Ask(Command::IdentifyLimits));
         }
-        steps.push(Step::Ask(Command::QueueCount { pairs: self.needs.lanes }));
+        steps.push(Step::Ask(Command::QueueCount {
+            pairs: self.needs.lanes,
+        }));
         steps.push(Step::ConfigureEvents);
         steps
     }
 
     fn warn_of_limits(&self) {
         let (c, l) = (&self.found.controller, &self.found.limits);
-        if let Some(blocks) = l.write_zeroes_blocks.filter(|blocks| c.write_zeroes && *blocks < 65_536) {
+        if let Some(blocks) = l
+            .write_zeroes_blocks
+            .filter(|blocks| c.write_zeroes && *blocks < 65_536)
+        {
             tracing::warn!("the drive refuses a Write Zeroes of more than {blocks} blocks (WZSL)");
         }
         if let Some(blocks) = l.range_blocks.filter(|_| c.deallocate) {
@@ -262,9 +279,16 @@ impl<A: Access> Controller<A> {
             return unusable("the controller is not enabled, or has its lanes already");
         }
         if rings.len() != self.needs.lanes as usize {
-            return unusable(format!("{} lanes were needed, and {} are to be created", self.needs.lanes, rings.len()));
+            return unusable(format!(
+                "{} lanes were needed, and {} are to be created",
+                self.needs.lanes,
+                rings.len()
+            ));
         }
-        let created = rings.iter().zip(1u16..).try_for_each(|(rings, pair)| self.create_lane(rings, pair));
+        let created = rings
+            .iter()
+            .zip(1u16..)
+            .try_for_each(|(rings, pair)| self.create_lane(rings, pair));
         self.kept_or_given_up(created)?;
         self.mode = Mode::Running;
         Ok(())
@@ -279,11 +303,14 @@ impl<A: Access> Controller<A> {
                 rings.entries
             ));
         }
-        for (what, host, entry) in
-            [("submission", rings.submission, ENTRY_BYTES as u64), ("completion", rings.completion, 16)]
-        {
+        for (what, host, entry) in [
+            ("submission", rings.submission, ENTRY_BYTES as u64),
+            ("completion", rings.completion, 16),
+        ] {
             if host % PAGE != 0 || !is_there(&*self.memory, host, bytes * entry) {
-                return unusable(format!("the {what} ring of lane {lane} is not in whole pages of the window"));
+                return unusable(format!(
+                    "the {what} ring of lane {lane} is not in whole pages of the window"
+                ));
             }
         }
         clear(&*self.memory, rings.completion, bytes * 16)?;
@@ -297,8 +324,17 @@ impl<A: Access> Controller<A> {
     fn create_steps(&self, lane: &Lane) -> [Step; 2] {
         let (pair, entries, interrupts) = (lane.pair, lane.rings.entries, self.needs.interrupts);
         [
-            Step::Ask(Command::CreateCompletion { pair, ring: lane.rings.completion, entries, interrupts }),
-            Step::Ask(Command::CreateSubmission { pair, ring: lane.rings.submission, entries }),
+            Step::Ask(Command::CreateCompletion {
+                pair,
+                ring: lane.rings.completion,
+                entries,
+                interrupts,
+            }),
+            Step::Ask(Command::CreateSubmission {
+                pair,
+                ring: lane.rings.submission,
+                entries,
+            }),
         ]
     }
 
@@ -312,7 +348,10 @@ impl<A: Access> Controller<A> {
                 return Ok(());
             }
             if let Some(command) = self.admin.late(self.access.now()) {
-                return failed(format!("the controller did not answer {} within {ADMIN_WAIT} ms", command.name()));
+                return failed(format!(
+                    "the controller did not answer {} within {ADMIN_WAIT} ms",
+                    command.name()
+                ));
             }
             self.access.pause();
         }
@@ -454,8 +493,15 @@ impl<A: Access> Controller<A> {
     fn look_at_time(&mut self) -> Result<(), DriveError> {
         let now = self.access.now();
         if let Some(command) = self.admin.late(now) {
-            let words = format!("the controller did not answer {} within {ADMIN_WAIT} ms", command.name());
-            return if self.mode == Mode::Running { self.begin_reset(&words) } else { failed(words) };
+            let words = format!(
+                "the controller did not answer {} within {ADMIN_WAIT} ms",
+                command.name()
+            );
+            return if self.mode == Mode::Running {
+                self.begin_reset(&words)
+            } else {
+                failed(words)
+            };
         }
         if self.mode != Mode::Running {
             return Ok(());
@@ -470,7 +516,10 @@ impl<A: Access> Controller<A> {
                 let (count, number) = (overdue.len(), lane.pair - 1);
                 tracing::warn!("the controller did not complete {count} commands of lane {number} within {ABORT_AFTER} ms: they are aborted");
             }
-            self.tasks.extend(overdue.into_iter().map(|command| Command::Abort { pair: lane.pair, command }));
+            self.tasks.extend(overdue.into_iter().map(|command| Command::Abort {
+                pair: lane.pair,
+                command,
+            }));
         }
         self.begin_task()
     }
@@ -484,14 +533,21 @@ impl<A: Access> Controller<A> {
         };
         if self.mode == Mode::Running {
             let all = it.take_overdue(now.saturating_add(1), 0);
-            self.tasks.extend(all.into_iter().map(|command| Command::Abort { pair: it.pair, command }));
+            self.tasks
+                .extend(all.into_iter().map(|command| Command::Abort { pair: it.pair, command }));
         }
         Ok(())
     }
 
     /// Begins a reset of the controller, as [`Controller::check`] does it by itself. It never waits.
     pub fn reset(&mut self) -> Result<(), DriveError> {
-        self.guard(|it| if it.mode == Mode::Running { it.begin_reset("a reset was asked for") } else { Ok(()) })
+        self.guard(|it| {
+            if it.mode == Mode::Running {
+                it.begin_reset("a reset was asked for")
+            } else {
+                Ok(())
+            }
+        })
     }
 
     /// Whether a reset goes on. Then the drive is to be polled, by [`Controller::work`].
@@ -509,11 +565,18 @@ impl<A: Access> Controller<A> {
         if self.mode != Mode::Running {
             return failed(why);
         }
-        while self.resets.front().is_some_and(|at| now.saturating_sub(*at) > RESET_SPAN) {
+        while self
+            .resets
+            .front()
+            .is_some_and(|at| now.saturating_sub(*at) > RESET_SPAN)
+        {
             self.resets.pop_front();
         }
         if self.resets.len() >= RESETS {
-            return failed(format!("{why}, after {RESETS} resets within {} minutes", RESET_SPAN / 60_000));
+            return failed(format!(
+                "{why}, after {RESETS} resets within {} minutes",
+                RESET_SPAN / 60_000
+            ));
         }
         self.resets.push_back(now);
         tracing::error!("{why}: it is reset");
@@ -579,7 +642,10 @@ impl<A: Access> Controller<A> {
             Step::AwaitDisabled => self.await_status(status::READY, 0, since, disable, "become disabled"),
             Step::FailPending => {
                 let memory = &*self.memory;
-                self.lanes.iter_mut().try_for_each(|lane| lane.fail_pending(memory)).map(|()| true)
+                self.lanes
+                    .iter_mut()
+                    .try_for_each(|lane| lane.fail_pending(memory))
+                    .map(|()| true)
             }
             Step::Enable => self.enable(),
             Step::AwaitReady => self.await_status(status::READY, status::READY, since, ready, "become ready"),
@@ -613,25 +679,35 @@ impl<A: Access> Controller<A> {
         self.events_read.clear();
         let entries = ADMIN_ENTRIES - 1;
         self.access.write(property::AQA, entries << 16 | entries)?;
-        for (at, host) in [(property::ASQ, self.needs.admin), (property::ACQ, self.needs.admin + PAGE)] {
+        for (at, host) in [
+            (property::ASQ, self.needs.admin),
+            (property::ACQ, self.needs.admin + PAGE),
+        ] {
             self.access.write(at, host as u32)?;
             self.access.write(at + 4, (host >> 32) as u32)?;
         }
         self.enabled = true;
-        self.access.write(property::CC, configuration::ENABLE | configuration::ENTRIES)?;
+        self.access
+            .write(property::CC, configuration::ENABLE | configuration::ENTRIES)?;
         Ok(true)
     }
 
     fn await_status(&mut self, mask: u32, wanted: u32, since: u64, limit: u64, what: &str) -> Result<bool, DriveError> {
         let late = self.access.now().saturating_sub(since) > limit;
         let Some(value) = self.access.poll(property::CSTS)? else {
-            return if late { failed(format!("the controller did not {what} within {limit} ms")) } else { Ok(false) };
+            return if late {
+                failed(format!("the controller did not {what} within {limit} ms"))
+            } else {
+                Ok(false)
+            };
         };
         if value == GONE {
             return failed("the controller is gone: its status register reads as all ones");
         }
         if wanted == status::READY && value & status::FATAL != 0 {
-            return failed(format!("the controller shows a fatal status (CSTS.CFS) while it should {what}"));
+            return failed(format!(
+                "the controller shows a fatal status (CSTS.CFS) while it should {what}"
+            ));
         }
         if value & mask == wanted {
             if wanted == status::READY && !self.needs.interrupts {
@@ -658,7 +734,10 @@ impl<A: Access> Controller<A> {
                     return failed("the controller is gone: its status register reads as all ones");
                 }
                 if value & status::FATAL != 0 {
-                    return failed(format!("the controller shows a fatal status (CSTS.CFS) during {}", command.name()));
+                    return failed(format!(
+                        "the controller shows a fatal status (CSTS.CFS) during {}",
+                        command.name()
+                    ));
                 }
             }
         }
@@ -669,7 +748,9 @@ impl<A: Access> Controller<A> {
     fn configure_events(&mut self) -> Result<bool, DriveError> {
         let notices = self.found.controller.optional_events & NAMESPACE_NOTICES;
         self.event_requests = self.found.controller.event_requests.min(EVENT_REQUESTS);
-        self.ask_of_script(Command::EventConfiguration { events: CRITICAL_WARNINGS | notices })
+        self.ask_of_script(Command::EventConfiguration {
+            events: CRITICAL_WARNINGS | notices,
+        })
     }
 
     fn lead(&mut self, lane: usize) -> Result<bool, DriveError> {
@@ -731,7 +812,9 @@ impl<A: Access> Controller<A> {
         match answer.command {
             Command::IdentifyController => {
                 let found = ControllerPage::of(&page, TRANSFER)?;
-                if !self.lanes.is_empty() && (&found.serial, &found.model) != (&self.found.controller.serial, &self.found.controller.model) {
+                if !self.lanes.is_empty()
+                    && (&found.serial, &found.model) != (&self.found.controller.serial, &self.found.controller.model)
+                {
                     return failed("the controller is another one after its reset");
                 }
                 self.found.controller = found;
@@ -798,7 +881,11 @@ impl<A: Access> Controller<A> {
             return Ok(());
         }
         let was = std::mem::replace(&mut self.mode, Mode::Idle);
-        let deleted = if was == Mode::Running { self.delete_lanes() } else { Ok(()) };
+        let deleted = if was == Mode::Running {
+            self.delete_lanes()
+        } else {
+            Ok(())
+        };
         self.lanes.clear();
         let stopped = if self.enabled {
             self.script = [Step::Shutdown, Step::AwaitShutdown].into();
@@ -813,8 +900,9 @@ impl<A: Access> Controller<A> {
     fn delete_lanes(&mut self) -> Result<(), DriveError> {
         self.tasks.clear();
         let pairs: Vec<u16> = self.lanes.iter().rev().map(|lane| lane.pair).collect();
-        let steps =
-            pairs.into_iter().flat_map(|pair| [Command::DeleteSubmission { pair }, Command::DeleteCompletion { pair }]);
+        let steps = pairs
+            .into_iter()
+            .flat_map(|pair| [Command::DeleteSubmission { pair }, Command::DeleteCompletion { pair }]);
         self.script = steps.map(Step::Ask).collect();
         self.run()
     }

@@ -15,7 +15,11 @@ pub struct Event {
 impl Event {
     /// Takes dword 0 apart.
     pub fn of(dword0: u32) -> Self {
-        Self { kind: (dword0 & 7) as u8, information: (dword0 >> 8 & 0xff) as u8, log: (dword0 >> 16 & 0xff) as u8 }
+        Self {
+            kind: (dword0 & 7) as u8,
+            information: (dword0 >> 8 & 0xff) as u8,
+            log: (dword0 >> 16 & 0xff) as u8,
+        }
     }
 
     /// The controller has a failure that lasts: "Persistent Internal Error".
@@ -44,8 +48,18 @@ impl fmt::Display for Event {
             (2, 0) => "the attributes of a namespace have changed",
             (2, 1) => "firmware is about to be activated",
             (2, 2) => "the telemetry log has changed",
-            _ => return write!(f, "event type {}, information {:#04x}, log page {:#04x}", self.kind, self.information, self.log),
+            _ => {
+                return write!(
+                    f,
+                    "event type {}, information {:#04x}, log page {:#04x}",
+                    self.kind, self.information, self.log
+                )
+            }
         };
-        write!(f, "{words} (event type {}, information {:#04x}, log page {:#04x})", self.kind, self.information, self.log)
+        write!(
+            f,
+            "{words} (event type {}, information {:#04x}, log page {:#04x})",
+            self.kind, self.information, self.log
+        )
     }
 }

@@ -1,4 +1,3 @@
-#![forbid(unsafe_code)]
 //! A controller in memory for tests: properties, doorbells, admin commands and lanes, each with faults to choose. Its clock goes on by
 //! [`FakeAccess::pause`] and by the tests alone.
 
@@ -22,30 +21,52 @@ pub struct TestMemory {
 impl TestMemory {
     /// One piece from `from` up to `to`.
     pub fn new(from: u64, to: u64) -> Arc<Self> {
-        Self::with(to, vec![Piece { host: from, bytes: to - from }])
+        Self::with(
+            to,
+            vec![Piece {
+                host: from,
+                bytes: to - from,
+            }],
+        )
     }
 
     pub fn with(end: u64, pieces: Vec<Piece>) -> Arc<Self> {
-        Arc::new(Self { region: MmapRegion::new(end as usize).unwrap(), pieces })
+        Arc::new(Self {
+            region: MmapRegion::new(end as usize).unwrap(),
+            pieces,
+        })
     }
 
     pub fn fill(&self, value: u8) {
         let bytes = vec![value; self.region.len()];
-        self.region.get_slice(0, bytes.len()).unwrap().write_slice(&bytes, 0).unwrap();
+        self.region
+            .get_slice(0, bytes.len())
+            .unwrap()
+            .write_slice(&bytes, 0)
+            .unwrap();
     }
 
     pub fn get(&self, host: u64, len: usize) -> Vec<u8> {
         let mut bytes = vec![0; len];
-        self.region.get_slice(host as usize, len).unwrap().read_slice(&mut bytes, 0).unwrap();
+        self.region
+            .get_slice(host as usize, len)
+            .unwrap()
+            .read_slice(&mut bytes, 0)
+            .unwrap();
         bytes
     }
 
     pub fn put(&self, host: u64, bytes: &[u8]) {
-        self.region.get_slice(host as usize, bytes.len()).unwrap().write_slice(bytes, 0).unwrap();
+        self.region
+            .get_slice(host as usize, bytes.len())
+            .unwrap()
+            .write_slice(bytes, 0)
+            .unwrap();
     }
 }
 
-impl DriveMemory for TestMemory {
+// SAFETY: the region stays mapped as long as this value, and the pieces lie in it.
+unsafe impl DriveMemory for TestMemory {
     fn slice(&self, host: u64, len: usize) -> Option<VolatileSlice<'_>> {
         let is_in = |p: &&Piece| host >= p.host && host - p.host < p.bytes && len as u64 <= p.bytes - (host - p.host);
         self.pieces.iter().find(is_in)?;
@@ -241,9 +262,19 @@ impl Fake {
         }
         let mut done = [0u8; 16];
         put(&mut done, 0, &result.to_le_bytes());
-        put(&mut done, 8, &((self.head + u32::from(fault == Fault::Head)) as u16).to_le_bytes());
+        put(
+            &mut done,
+            8,
+            &((self.head + u32::from(fault == Fault::Head)) as u16).to_le_bytes(),
+        );
         put(&mut done, 10, &u16::from(fault == Fault::QueueId).to_le_bytes());
-        put(&mut done, 12, &get16(entry, 2).wrapping_sub(u16::from(fault == Fault::CommandId)).to_le_bytes());
+        put(
+            &mut done,
+            12,
+            &get16(entry, 2)
+                .wrapping_sub(u16::from(fault == Fault::CommandId))
+                .to_le_bytes(),
+        );
         let phase = self.phase != (fault == Fault::Phase);
         put(&mut done, 14, &(status << 1 | u16::from(phase)).to_le_bytes());
         self.memory.put(self.acq + 16 * u64::from(self.done), &done);
@@ -282,7 +313,13 @@ impl Fake {
     fn admin(&mut self, entry: &[u8]) {
         let (place, d10, d11) = (get64(entry, 24), get32(entry, 40), get32(entry, 44));
         let (id, mut result, mut status) = ((d10 & 0xffff) as usize, 0, 0);
-        let queue = Queue { address: place, slots: (d10 >> 16) + 1, flags: d11, phase: true, ..Queue::default() };
+        let queue = Queue {
+            address: place,
+            slots: (d10 >> 16) + 1,
+            flags: d11,
+            phase: true,
+            ..Queue::default()
+        };
         self.commands += 1;
         match entry[0] {
             0x06 => match (d10, get32(entry, 4)) {

@@ -60,7 +60,10 @@ fn unusable<T>(words: String) -> Result<T, DriveError> {
 
 fn text(page: &[u8], at: usize, bytes: usize) -> String {
     let field = page.get(at..at + bytes).unwrap_or_default();
-    let length = field.iter().rposition(|c| *c != b' ' && *c != 0).map_or(0, |last| last + 1);
+    let length = field
+        .iter()
+        .rposition(|c| *c != b' ' && *c != 0)
+        .map_or(0, |last| last + 1);
     let printable = |c: &u8| if (0x20..0x7f).contains(c) { char::from(*c) } else { '?' };
     field.iter().take(length).map(printable).collect()
 }
@@ -73,7 +76,11 @@ impl ControllerPage {
         if kind > 1 {
             return unusable(format!("the controller is no I/O controller (CNTRLTYPE is {kind})"));
         }
-        let most_transfer = if mdts == 0 { None } else { 4096u64.checked_shl(u32::from(mdts)).filter(|_| mdts < 52) };
+        let most_transfer = if mdts == 0 {
+            None
+        } else {
+            4096u64.checked_shl(u32::from(mdts)).filter(|_| mdts < 52)
+        };
         if let Some(most) = most_transfer.filter(|most| *most < transfer) {
             let (most, wanted) = (most >> 10, transfer >> 10);
             return unusable(format!(
@@ -114,7 +121,10 @@ impl NamespacePage {
     /// Checks the page: blocks of 512 bytes, at least `blocks` of them, without metadata and protection information, and not write protected.
     pub fn of(page: &[u8; PAGE_BYTES], blocks: u64) -> Result<Self, DriveError> {
         let flbas = get8(page, 26);
-        let (format, formats) = (usize::from(flbas & 15 | (flbas >> 5 & 3) << 4), usize::from(get8(page, 25)));
+        let (format, formats) = (
+            usize::from(flbas & 15 | (flbas >> 5 & 3) << 4),
+            usize::from(get8(page, 25)),
+        );
         let found = get64(page, 0);
         if found == 0 {
             return unusable("namespace 1 is not active, or has no blocks".into());
@@ -125,10 +135,14 @@ impl NamespacePage {
         let descriptor = 128 + 4 * format;
         let (size, metadata) = (get8(page, descriptor + 2), get16(page, descriptor));
         if size != 9 {
-            return unusable(format!("namespace 1 has blocks of 2^{size} bytes, not 512: format it with 512 bytes"));
+            return unusable(format!(
+                "namespace 1 has blocks of 2^{size} bytes, not 512: format it with 512 bytes"
+            ));
         }
         if metadata != 0 {
-            return unusable(format!("namespace 1 has {metadata} bytes of metadata a block: format it without metadata"));
+            return unusable(format!(
+                "namespace 1 has {metadata} bytes of metadata a block: format it without metadata"
+            ));
         }
         if get8(page, 29) & 7 != 0 {
             return unusable("namespace 1 is formatted with protection information".into());
@@ -137,7 +151,9 @@ impl NamespacePage {
             return unusable("namespace 1 is write protected".into());
         }
         if found < blocks {
-            return unusable(format!("namespace 1 has {found} blocks, and the extents end at block {blocks}"));
+            return unusable(format!(
+                "namespace 1 has {found} blocks, and the extents end at block {blocks}"
+            ));
         }
         Ok(Self { blocks: found })
     }
@@ -148,7 +164,9 @@ impl Limits {
     pub fn of(page: &[u8; PAGE_BYTES]) -> Self {
         let size = u32::from(get8(page, 1));
         Self {
-            write_zeroes_blocks: Some(size).filter(|s| (1..60).contains(s)).and_then(|s| 8u64.checked_shl(s)),
+            write_zeroes_blocks: Some(size)
+                .filter(|s| (1..60).contains(s))
+                .and_then(|s| 8u64.checked_shl(s)),
             ranges: Some(get8(page, 3)).filter(|n| *n != 0),
             range_blocks: Some(get32(page, 4)).filter(|n| *n != 0),
             dataset_blocks: Some(get64(page, 8)).filter(|n| *n != 0),

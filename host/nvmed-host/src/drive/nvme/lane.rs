@@ -115,7 +115,11 @@ impl Lane {
         if value < self.rings.entries {
             return Ok(());
         }
-        failed(format!("the {what} doorbell of lane {} cannot say {value} of {} slots", self.pair - 1, self.rings.entries))
+        failed(format!(
+            "the {what} doorbell of lane {} cannot say {value} of {} slots",
+            self.pair - 1,
+            self.rings.entries
+        ))
     }
 
     fn next(&self, at: u32) -> u32 {
@@ -148,9 +152,17 @@ impl Lane {
                 u16::from_le_bytes([entry[2], entry[3]])
             };
             if self.pending.len() >= self.rings.entries as usize {
-                return failed(format!("lane {} has more commands than its ring has slots", self.pair - 1));
+                return failed(format!(
+                    "lane {} has more commands than its ring has slots",
+                    self.pair - 1
+                ));
             }
-            self.pending.push(Pending { id, since: now, aborted: false, old: false });
+            self.pending.push(Pending {
+                id,
+                since: now,
+                aborted: false,
+                old: false,
+            });
             self.tail = self.next(self.tail);
         }
         Ok(self.live)
@@ -199,13 +211,20 @@ impl Lane {
             }
         }
         if u64::from(steps) + left.len() as u64 >= u64::from(self.rings.entries) {
-            return failed(format!("the completion ring of lane {} has no room for its commands", self.pair - 1));
+            return failed(format!(
+                "the completion ring of lane {} has no room for its commands",
+                self.pair - 1
+            ));
         }
         for id in left {
             let queue = self.resume & 0xffff | u32::from(self.pair) << 16;
             store(memory, self.completion(at), &[0u8; 8])?;
             store32(memory, self.completion(at) + 8, queue)?;
-            store32(memory, self.completion(at) + 12, u32::from(id) | INTERNAL_ERROR << 17 | u32::from(phase) << 16)?;
+            store32(
+                memory,
+                self.completion(at) + 12,
+                u32::from(id) | INTERNAL_ERROR << 17 | u32::from(phase) << 16,
+            )?;
             (at, phase) = self.after(at, phase);
         }
         Ok(())
@@ -225,7 +244,12 @@ impl Lane {
     /// [`Lane::lead`], and counts the Flushes that are needed.
     pub fn prepare(&mut self, memory: &dyn DriveMemory, now: u64) -> Result<(), DriveError> {
         if self.head != self.resume {
-            return failed(format!("the rings of lane {} are not in step: {} and {}", self.pair - 1, self.resume, self.head));
+            return failed(format!(
+                "the rings of lane {} are not in step: {} and {}",
+                self.pair - 1,
+                self.resume,
+                self.head
+            ));
         }
         let mut nothing = [0u8; 16];
         let last = u32::from(NO_ID) | u32::from(!self.phase) << 16;
@@ -233,9 +257,19 @@ impl Lane {
         for at in 0..self.rings.entries {
             store(memory, self.completion(at), &nothing)?;
         }
-        let count = if self.phase { self.head } else { self.rings.entries + self.head };
-        self.walk =
-            Some(Walk { to_submit: count, to_complete: count, tail: 0, head: 0, phase: true, since: now });
+        let count = if self.phase {
+            self.head
+        } else {
+            self.rings.entries + self.head
+        };
+        self.walk = Some(Walk {
+            to_submit: count,
+            to_complete: count,
+            tail: 0,
+            head: 0,
+            phase: true,
+            since: now,
+        });
         Ok(())
     }
 
@@ -271,7 +305,10 @@ impl Lane {
             return Ok((None, bells));
         }
         if now.saturating_sub(walk.since) > ALIGN_WAIT {
-            return failed(format!("the controller did not answer Flush on lane {} within {ALIGN_WAIT} ms after a reset", self.pair - 1));
+            return failed(format!(
+                "the controller did not answer Flush on lane {} within {ALIGN_WAIT} ms after a reset",
+                self.pair - 1
+            ));
         }
         Ok((Some(()), bells))
     }

@@ -1,4 +1,3 @@
-#![forbid(unsafe_code)]
 //! The window as drives use it.
 
 use std::sync::atomic::Ordering;
@@ -12,18 +11,24 @@ use crate::memory::{Piece, Window};
 pub const PAGE: u64 = 4096;
 
 /// Memory that a drive shares with mediator and guests, by host address. Others write it at any time, so each byte is read once.
-pub trait DriveMemory: Send + Sync {
+///
+/// # Safety
+///
+/// All of the [`DriveMemory::pieces`], from [`DriveMemory::base`] on, is mapped memory that can be read and written and that nobody takes for its own,
+/// as long as this value lives: a device may be given it.
+pub unsafe trait DriveMemory: Send + Sync {
     /// The `len` bytes from a host address on, or `None` where not all of them have memory.
     fn slice(&self, host: u64, len: usize) -> Option<VolatileSlice<'_>>;
 
-    /// Where there is memory. All of it stays, as long as the drive is open.
+    /// Where there is memory.
     fn pieces(&self) -> Vec<Piece>;
 
     /// Where host address 0 lies in this process.
     fn base(&self) -> *mut u8;
 }
 
-impl DriveMemory for Window {
+// SAFETY: pieces of a window keep their places until it is dropped, and all accesses are volatile.
+unsafe impl DriveMemory for Window {
     fn slice(&self, host: u64, len: usize) -> Option<VolatileSlice<'_>> {
         Window::slice(self, host, len)
     }
@@ -74,11 +79,16 @@ pub fn clear(memory: &dyn DriveMemory, host: u64, len: u64) -> Result<(), DriveE
 /// Reads an aligned dword at once; what is read after it was not written before it.
 pub fn load32(memory: &dyn DriveMemory, host: u64) -> Result<u32, DriveError> {
     let slice = memory.slice(host, 4).ok_or_else(|| outside(host))?;
-    slice.load::<u32>(0, Ordering::Acquire).map(u32::from_le).map_err(|_| outside(host))
+    slice
+        .load::<u32>(0, Ordering::Acquire)
+        .map(u32::from_le)
+        .map_err(|_| outside(host))
 }
 
 /// Writes an aligned dword at once, after all that was stored before.
 pub fn store32(memory: &dyn DriveMemory, host: u64, value: u32) -> Result<(), DriveError> {
     let slice = memory.slice(host, 4).ok_or_else(|| outside(host))?;
-    slice.store(value.to_le(), 0, Ordering::Release).map_err(|_| outside(host))
+    slice
+        .store(value.to_le(), 0, Ordering::Release)
+        .map_err(|_| outside(host))
 }

@@ -1,4 +1,3 @@
-#![forbid(unsafe_code)]
 //! The driver's side of a physical NVMe controller: it is reset, enabled with an admin queue of its own, looked at, and given one pair of I/O queues for
 //! each lane. What the controller says is not trusted: each property, each field of Identify that is used and each admin completion is checked, and each
 //! wait has a limit. Completions of lanes are the mediator's.
@@ -24,7 +23,7 @@ mod tests;
 
 pub use access::{Access, Capabilities};
 pub use admin::{ADMIN_BYTES, ADMIN_WAIT};
-pub use controller::{Controller, Found, Needs, ABORT_AFTER, MOST_LANES, RESET_AFTER, RESETS, SHUTDOWN_WAIT, TRANSFER};
+pub use controller::{Controller, Found, Needs, ABORT_AFTER, MOST_LANES, RESETS, RESET_AFTER, SHUTDOWN_WAIT, TRANSFER};
 pub use event::Event;
 pub use memory::DriveMemory;
 

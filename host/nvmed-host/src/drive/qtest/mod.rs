@@ -27,7 +27,10 @@ use super::nvme::{Access, Controller, DriveMemory, Needs, Recover};
 use super::{Budget, Drive, DriveError, LaneRings, Progress, Reach};
 
 /// Where the window's pieces may lie.
-pub const REACH: Reach = Reach { from: 0x10_0000, to: 0xb000_0000 };
+pub const REACH: Reach = Reach {
+    from: 0x10_0000,
+    to: 0xb000_0000,
+};
 
 /// Where PCI memory of that machine is free, up to other devices.
 const BAR_AT: u32 = 0xfe00_0000;
@@ -128,9 +131,19 @@ impl QtestDrive {
         let place = find_function(&mut socket)?;
         match set_up_function(&mut socket, place) {
             Ok(bytes) => {
-                let needs = Needs { interrupts: false, ..needs };
-                let bar = Bar { socket, place, bytes, wanted: None };
-                let mut it = Self { controller: Controller::new(bar, memory, needs) };
+                let needs = Needs {
+                    interrupts: false,
+                    ..needs
+                };
+                let bar = Bar {
+                    socket,
+                    place,
+                    bytes,
+                    wanted: None,
+                };
+                let mut it = Self {
+                    controller: Controller::new(bar, memory, needs),
+                };
                 let opened = it.controller.open();
                 if opened.is_err() {
                     // The first reason is reported; however far it came, the controller makes no accesses of the window.
@@ -203,7 +216,13 @@ impl Drive for QtestDrive {
         let mut words = String::new();
         let place = self.controller.access().place;
         // Writing to a String cannot fail.
-        let _ = write!(words, "of QEMU at 00:{:02x}.{}: {}", place.device, place.function, self.controller.found());
+        let _ = write!(
+            words,
+            "of QEMU at 00:{:02x}.{}: {}",
+            place.device,
+            place.function,
+            self.controller.found()
+        );
         words
     }
 

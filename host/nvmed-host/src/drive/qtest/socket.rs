@@ -220,9 +220,11 @@ impl Socket {
             }
             let left = end.saturating_duration_since(Instant::now());
             let events = if self.unsent.is_empty() { PollFlags::POLLIN } else { PollFlags::POLLIN | PollFlags::POLLOUT };
-            let timeout = PollTimeout::try_from(left).unwrap_or(PollTimeout::MAX);
+            if left.is_zero() {
+                return failed("QEMU does not answer in time");
+            }
+            let timeout = PollTimeout::try_from(left + Duration::from_millis(1)).unwrap_or(PollTimeout::MAX);
             match poll(&mut [PollFd::new(self.stream.as_fd(), events)], timeout) {
-                Ok(0) => return failed("QEMU does not answer in time"),
                 Ok(_) | Err(Errno::EINTR) => {}
                 Err(why) => return failed(format!("cannot be waited for: {why}")),
             }

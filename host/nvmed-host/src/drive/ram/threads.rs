@@ -1,5 +1,5 @@
 #![forbid(unsafe_code)]
-//! The threads of a drive whose store may wait for a device: one that syncs, one that makes blocks zero, and some that move bytes.
+//! The threads of a drive whose store may wait for a device: one that syncs, one that makes blocks zero, one that writes, and some that read.
 //!
 //! A thread takes a task, carries it out, and sends its status to the mediator's thread; an eventfd wakes that thread. Tasks of each kind wait in a queue of
 //! their own, so that no Read waits for a Flush. The mediator's thread waits for none of them, for no lock either.
@@ -20,8 +20,8 @@ use super::store::{Store, Wait};
 use crate::drive::entry::Status;
 use crate::drive::prp::SharedMemory;
 
-/// Threads that move bytes.
-const MOVERS: usize = 3;
+/// Threads that read. Writes to a file exclude each other, so that one thread is enough for them, and need not be woken for each.
+const READERS: usize = 3;
 /// Bytes that are made zero by one call: others' writes to the file wait as long as it takes.
 const PIECE: u64 = 1 << 20;
 
@@ -199,7 +199,8 @@ pub struct Threads<M> {
 
 /// Where tasks are given to the threads.
 struct Queues {
-    moves: Sender<Task>,
+    reads: Sender<Task>,
+    writes: Sender<Task>,
     clears: Sender<Task>,
     syncs: Sender<Task>,
 }
@@ -231,16 +232,24 @@ impl<M: SharedMemory + 'static> Threads<M> {
             given: 0,
         };
         if waits {
-            let (moves, for_movers) = channel();
+            let (reads, for_readers) = channel();
+            let (writes, for_writer) = channel();
             let (clears, for_clearer) = channel();
             let (syncs, for_syncer) = channel();
             let to_syncer = syncs.clone();
-            let for_movers = Arc::new(Mutex::new(for_movers));
-            threads.queues = Some(Queues { moves, clears, syncs });
-            for _ in 0..MOVERS {
-                let tasks = Arc::clone(&for_movers);
-                threads.spawn("drive-moves", &sender, move |worker| worker.move_tasks(&tasks))?;
+            let for_readers = Arc::new(Mutex::new(for_readers));
+            let for_writer = Mutex::new(for_writer);
+            threads.queues = Some(Queues {
+                reads,
+                writes,
+                clears,
+                syncs,
+            });
+            for _ in 0..READERS {
+                let tasks = Arc::clone(&for_readers);
+                threads.spawn("drive-reads", &sender, move |worker| worker.move_tasks(&tasks))?;
             }
+            threads.spawn("drive-writes", &sender, move |worker| worker.move_tasks(&for_writer))?;
             threads.spawn("drive-clears", &sender, move |worker| {
                 worker.clear_tasks(&for_clearer, &to_syncer)
             })?;
@@ -275,7 +284,8 @@ impl<M> Threads<M> {
         let Some(queues) = &self.queues else { return false };
         let queue = match &task.step {
             Step::Clear(_) => &queues.clears,
-            Step::Transfer(transfer) if !transfer.forced => &queues.moves,
+            Step::Transfer(transfer) if !transfer.forced && transfer.changes() => &queues.writes,
+            Step::Transfer(transfer) if !transfer.forced => &queues.reads,
             Step::Transfer(_) | Step::Sync => &queues.syncs,
         };
         let is_given = queue.send(task).is_ok();

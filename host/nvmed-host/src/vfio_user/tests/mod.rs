@@ -72,9 +72,10 @@ fn replies(session: &mut Session) -> Vec<(u16, u16, u32, Vec<u8>)> {
         session.sent(count);
     }
     let mut replies = Vec::new();
-    while !bytes.is_empty() {
+    let mut rest = &bytes[..];
+    while !rest.is_empty() {
         let field = |at: usize, width: usize| {
-            bytes[at..at + width]
+            rest[at..at + width]
                 .iter()
                 .rev()
                 .fold(0u32, |value, byte| value << 8 | u32::from(*byte))
@@ -82,9 +83,8 @@ fn replies(session: &mut Session) -> Vec<(u16, u16, u32, Vec<u8>)> {
         let (size, flags, error) = (field(4, 4) as usize, field(8, 4), field(12, 4));
         assert_eq!(flags, if error == 0 { REPLY } else { REPLY | ERROR });
         assert!(error == 0 || size == 16);
-        let reply = (field(0, 2) as u16, field(2, 2) as u16, error, bytes[16..size].to_vec());
-        bytes.drain(..size);
-        replies.push(reply);
+        replies.push((field(0, 2) as u16, field(2, 2) as u16, error, rest[16..size].to_vec()));
+        rest = &rest[size..];
     }
     replies
 }

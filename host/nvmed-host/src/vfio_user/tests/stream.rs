@@ -146,6 +146,18 @@ fn attribution() {
     assert!(session.next_request().unwrap().is_none());
     feed(&mut session, &map(4, 0x3000)[5..], vec![]);
     assert_eq!(next(&mut session), (0x3000, Some(numbers[2])));
+    // of the next there is but one byte, with which its descriptor came
+    let (fourth, fifth) = (file(), file());
+    let numbers = [identity(&fourth), identity(&fifth)];
+    feed(&mut session, &map(6, 0x5000)[..47], vec![fourth]);
+    feed(
+        &mut session,
+        &[&map(6, 0x5000)[47..], &map(7, 0x6000)[..1]].concat(),
+        vec![fifth],
+    );
+    assert_eq!(next(&mut session), (0x5000, Some(numbers[0])));
+    feed(&mut session, &map(7, 0x6000)[1..], vec![]);
+    assert_eq!(next(&mut session), (0x6000, Some(numbers[1])));
     // a map without one after it has none
     feed(&mut session, &map(5, 0x4000), vec![]);
     assert_eq!(next(&mut session), (0x4000, None));

@@ -251,6 +251,26 @@ fn broken_rules() {
     }
 }
 
+/// A header by itself, with each size that is just possible, and each that is just not.
+#[test]
+fn headers() {
+    let header = |size: u32| Header::decode(message_of(7, 13, size, NO_REPLY, 5, &[]).first_chunk().unwrap());
+    for size in [16, 17, MESSAGE_MAX as u32] {
+        let good = Header {
+            id: 7,
+            command: 13,
+            bytes: size,
+            flags: NO_REPLY,
+            error: 5,
+        };
+        assert_eq!(header(size), Ok(good));
+        assert_eq!(good.encode().to_vec(), message_of(7, 13, size, NO_REPLY, 5, &[]));
+    }
+    for size in [0, 1, 15, MESSAGE_MAX as u32 + 1, u32::MAX] {
+        assert_eq!(header(size), Err(FramingError::Size(size)));
+    }
+}
+
 /// Bytes that are not as many as the header says are no message.
 #[test]
 fn other_lengths() {

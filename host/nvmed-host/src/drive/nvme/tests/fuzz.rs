@@ -30,7 +30,8 @@ fn identify_pages() {
     for _ in 0..20_000 {
         let (mut c, mut n) = (controller, namespace);
         for _ in 0..random.below(6) {
-            let place = [77, 111, 512, 513, 516, 520, 525, 88, 259, random.below(4096) as usize][random.below(10) as usize];
+            let place =
+                [77, 111, 512, 513, 516, 520, 525, 88, 259, random.below(4096) as usize][random.below(10) as usize];
             c[place] = random.next() as u8;
             let place = [0, 7, 25, 26, 29, 99, 128, 130, random.below(4096) as usize][random.below(9) as usize];
             n[place] = random.next() as u8;
@@ -47,7 +48,13 @@ fn identify_pages() {
         }
         Limits::of(&n);
         let cap = random.next();
-        if let Ok(found) = Capabilities::of(cap, random.next() as u32, 0, 1 + random.below(8) as u32, random.next() as u32) {
+        if let Ok(found) = Capabilities::of(
+            cap,
+            random.next() as u32,
+            0,
+            1 + random.below(8) as u32,
+            random.next() as u32,
+        ) {
             assert!((2..=65_536).contains(&found.most_entries) && (500..=600_000).contains(&found.ready_wait));
         }
     }
@@ -69,7 +76,12 @@ fn admin_completions() {
                     let at = ADMIN + 4096 + 16 * random.below(16);
                     let mut entry = [0u8; 16];
                     put(&mut entry, 0, &random.next().to_le_bytes());
-                    put(&mut entry, 8, &(random.below(20) | random.below(2) << 16 | random.below(24) << 32 | random.below(4) << 48).to_le_bytes());
+                    put(
+                        &mut entry,
+                        8,
+                        &(random.below(20) | random.below(2) << 16 | random.below(24) << 32 | random.below(4) << 48)
+                            .to_le_bytes(),
+                    );
                     bench.memory.put(at, &entry);
                 }
                 1 => drop(bench.fake().raise(random.next() as u32 & 0x7f_07_07)),

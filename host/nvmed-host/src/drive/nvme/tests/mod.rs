@@ -29,8 +29,18 @@ impl Bench {
         let memory = TestMemory::new(0x10000, MEMORY);
         memory.fill(0xa5);
         let fake = Arc::new(Mutex::new(Fake::new(memory.clone())));
-        let needs = Needs { admin: ADMIN, blocks: 4096, lanes: 2, interrupts: false };
-        Self { memory, fake, bar_bytes: 0x2000, needs }
+        let needs = Needs {
+            admin: ADMIN,
+            blocks: 4096,
+            lanes: 2,
+            interrupts: false,
+        };
+        Self {
+            memory,
+            fake,
+            bar_bytes: 0x2000,
+            needs,
+        }
     }
 
     fn with(change: impl FnOnce(&mut Fake)) -> Self {
@@ -49,7 +59,10 @@ impl Bench {
     }
 
     fn controller(&self) -> Controller<FakeAccess> {
-        let access = FakeAccess { fake: self.fake.clone(), bytes: self.bar_bytes };
+        let access = FakeAccess {
+            fake: self.fake.clone(),
+            bytes: self.bar_bytes,
+        };
         Controller::new(access, self.memory.clone(), self.needs)
     }
 
@@ -71,7 +84,11 @@ impl Bench {
 
 fn rings(lane: u32) -> LaneRings {
     let at = RINGS + 0x4000 * u64::from(lane);
-    LaneRings { submission: at, completion: at + 0x2000, entries: 65 }
+    LaneRings {
+        submission: at,
+        completion: at + 0x2000,
+        entries: 65,
+    }
 }
 
 fn words<T>(result: Result<T, DriveError>) -> String {

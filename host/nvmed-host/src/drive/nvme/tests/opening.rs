@@ -26,7 +26,10 @@ fn a_good_controller_is_opened_used_and_closed() {
     let lanes = [rings(0), rings(1)];
     n.create_lanes(&lanes).unwrap();
     for (lane, pair) in lanes.iter().zip(1u32..) {
-        let (s, c): (Queue, Queue) = (bench.seen().submission[pair as usize], bench.seen().completion[pair as usize]);
+        let (s, c): (Queue, Queue) = (
+            bench.seen().submission[pair as usize],
+            bench.seen().completion[pair as usize],
+        );
         assert_eq!((s.address, s.slots, s.flags), (lane.submission, 65, pair << 16 | 1));
         assert_eq!((c.address, c.slots, c.flags), (lane.completion, 65, 1));
         assert!(bench.memory.get(lane.completion, 65 * 16).iter().all(|byte| *byte == 0));
@@ -57,17 +60,34 @@ fn it_is_opened_many_times_and_the_admin_queue_goes_round() {
 
 #[test]
 fn properties_are_checked() {
-    bad("there is no controller: its registers read as all ones", |f| f.gone = true);
+    bad("there is no controller: its registers read as all ones", |f| {
+        f.gone = true
+    });
     bad("does not have the NVM command set", |f| f.cap &= !(1 << 37));
-    bad("needs memory pages larger than 4 KiB (CAP.MPSMIN is 1)", |f| f.cap |= 1 << 48);
-    bad("needs memory pages larger than 4 KiB (CAP.MPSMIN is 8)", |f| f.cap |= 8 << 48);
+    bad("needs memory pages larger than 4 KiB (CAP.MPSMIN is 1)", |f| {
+        f.cap |= 1 << 48
+    });
+    bad("needs memory pages larger than 4 KiB (CAP.MPSMIN is 8)", |f| {
+        f.cap |= 8 << 48
+    });
     bad("queues of one slot only", |f| f.cap &= !0xffff);
-    bad("the doorbells of 2 lanes end at 0xc1000, beyond the 0x2000 bytes of BAR0", |f| f.cap |= 15 << 32);
+    bad(
+        "the doorbells of 2 lanes end at 0xc1000, beyond the 0x2000 bytes of BAR0",
+        |f| f.cap |= 15 << 32,
+    );
     bad("did not become ready within 1000 ms", |f| f.fault = Fault::NeverReady);
-    bad("did not become ready within 500 ms", |f| (f.cap, f.fault) = (f.cap & !(0xff << 24), Fault::NeverReady));
-    bad("did not become disabled within 1000 ms", |f| (f.cc, f.csts, f.fault) = (1, 1, Fault::NeverDisabled));
-    bad("shows a fatal status (CSTS.CFS) while it should become ready", |f| f.fault = Fault::FatalOnEnable);
-    bad("is gone: its status register reads as all ones", |f| f.fault = Fault::GoneOnEnable);
+    bad("did not become ready within 500 ms", |f| {
+        (f.cap, f.fault) = (f.cap & !(0xff << 24), Fault::NeverReady)
+    });
+    bad("did not become disabled within 1000 ms", |f| {
+        (f.cc, f.csts, f.fault) = (1, 1, Fault::NeverDisabled)
+    });
+    bad("shows a fatal status (CSTS.CFS) while it should become ready", |f| {
+        f.fault = Fault::FatalOnEnable
+    });
+    bad("is gone: its status register reads as all ones", |f| {
+        f.fault = Fault::GoneOnEnable
+    });
     bad("an access failed", |f| f.fault = Fault::Access);
     let mut bench = Bench::new();
     for lanes in [0, 9] {
@@ -106,7 +126,9 @@ fn a_slow_controller_has_the_time_that_crto_says() {
         (f.fault, f.cap) = (Fault::SlowReady(31_000), f.cap | 1 << 59);
     });
     // a timeout that is shorter than CAP.TO does not count
-    bad("did not become ready within 1000 ms", |f| (f.crto, f.cap, f.fault) = (0, f.cap | 1 << 59, Fault::NeverReady));
+    bad("did not become ready within 1000 ms", |f| {
+        (f.crto, f.cap, f.fault) = (0, f.cap | 1 << 59, Fault::NeverReady)
+    });
 }
 
 #[test]
@@ -125,7 +147,9 @@ fn polls_that_are_answered_later_are_good_enough() {
 
 #[test]
 fn identify_is_checked() {
-    bad("transfers at most 64 KiB (MDTS is 4), and 128 are needed", |f| f.controller[77] = 4);
+    bad("transfers at most 64 KiB (MDTS is 4), and 128 are needed", |f| {
+        f.controller[77] = 4
+    });
     bad("transfers at most 8 KiB", |f| f.controller[77] = 1);
     bad("is no I/O controller (CNTRLTYPE is 2)", |f| f.controller[111] = 2);
     bad("SQES is 0x55", |f| f.controller[512] = 0x55);
@@ -135,7 +159,9 @@ fn identify_is_checked() {
     bad("CQES is 0x55", |f| f.controller[513] = 0x55);
     bad("has no namespace", |f| f.controller[516] = 0);
     bad("namespace 1 is not active", |f| f.namespace[..8].fill(0));
-    bad("namespace 1 has 4095 blocks, and the extents end at block 4096", |f| f.namespace[0..2].copy_from_slice(&[255, 15]));
+    bad("namespace 1 has 4095 blocks, and the extents end at block 4096", |f| {
+        f.namespace[0..2].copy_from_slice(&[255, 15])
+    });
     bad("blocks of 2^12 bytes, not 512", |f| f.namespace[130] = 12);
     bad("blocks of 2^0 bytes, not 512", |f| f.namespace[130] = 0);
     bad("8 bytes of metadata a block", |f| f.namespace[128] = 8);
@@ -144,8 +170,13 @@ fn identify_is_checked() {
     bad("protection information", |f| f.namespace[29] = 2);
     bad("write protected", |f| f.namespace[99] = 1);
     bad("namespace 1 has format 1 of 1", |f| f.namespace[26] = 1);
-    bad("namespace 1 has blocks of 2^0 bytes, not 512", |f| (f.namespace[26], f.namespace[25]) = (0x6f, 255));
-    bad("has 1 submission and 2 completion queues, and 2 lanes are needed", |f| f.granted = 1 << 16);
+    bad("namespace 1 has blocks of 2^0 bytes, not 512", |f| {
+        (f.namespace[26], f.namespace[25]) = (0x6f, 255)
+    });
+    bad(
+        "has 1 submission and 2 completion queues, and 2 lanes are needed",
+        |f| f.granted = 1 << 16,
+    );
     bad("has 2 submission and 1 completion queues", |f| f.granted = 1);
 }
 
@@ -158,12 +189,20 @@ fn unusual_controllers_are_taken() {
     assert_eq!(bench.open().found().controller.most_transfer, None);
     // entries of other sizes, too; more than 255 namespaces; more than 2^32 blocks; texts that are cut or strange
     let bench = Bench::with(|f| {
-        (f.controller[512], f.controller[513], f.controller[516], f.controller[517]) = (0x75, 0x53, 0, 1);
+        (
+            f.controller[512],
+            f.controller[513],
+            f.controller[516],
+            f.controller[517],
+        ) = (0x75, 0x53, 0, 1);
         put(&mut f.namespace, 0, &(1u64 << 32).to_le_bytes());
         f.controller[64..72].copy_from_slice(b"a\x02\0\0\0\0\0\0");
     });
     let n = bench.open();
-    assert_eq!((n.found().namespace.blocks, n.found().controller.firmware.as_str()), (1 << 32, "a?"));
+    assert_eq!(
+        (n.found().namespace.blocks, n.found().controller.firmware.as_str()),
+        (1 << 32, "a?")
+    );
     // format 16, whose number has a bit in the upper part of FLBAS
     let bench = Bench::with(|f| {
         (f.namespace[25], f.namespace[26], f.namespace[194], f.namespace[130]) = (16, 0x20, 9, 12);
@@ -177,7 +216,10 @@ fn unusual_controllers_are_taken() {
         });
         let n = bench.open();
         let c = &n.found().controller;
-        assert_eq!((c.compare, c.deallocate, c.write_zeroes, c.write_cache), (bit == 0, bit == 2, bit == 3, bit == 1));
+        assert_eq!(
+            (c.compare, c.deallocate, c.write_zeroes, c.write_cache),
+            (bit == 0, bit == 2, bit == 3, bit == 1)
+        );
     }
 }
 
@@ -191,8 +233,14 @@ fn limits_of_the_command_set_are_looked_at() {
     });
     let n = bench.open();
     let l = n.found().limits;
-    assert_eq!((l.write_zeroes_blocks, l.range_blocks, l.ranges, l.dataset_blocks), (Some(128), Some(1000), Some(16), Some(5000)));
-    assert!(n.found().to_string().ends_with("Write Zeroes of at most 128 blocks, ranges of at most 1000 blocks"));
+    assert_eq!(
+        (l.write_zeroes_blocks, l.range_blocks, l.ranges, l.dataset_blocks),
+        (Some(128), Some(1000), Some(16), Some(5000))
+    );
+    assert!(n
+        .found()
+        .to_string()
+        .ends_with("Write Zeroes of at most 128 blocks, ranges of at most 1000 blocks"));
     // an old controller isn't asked, and one that refuses is taken
     let bench = Bench::with(|f| (f.vs, f.limits[1]) = (0x1_0300, 4));
     assert_eq!(bench.open().found().limits.write_zeroes_blocks, None);
@@ -242,17 +290,45 @@ fn each_admin_completion_is_checked() {
 
 #[test]
 fn rings_are_checked() {
-    let ring = |submission, completion, entries| LaneRings { submission, completion, entries };
+    let ring = |submission, completion, entries| LaneRings {
+        submission,
+        completion,
+        entries,
+    };
     let bad = [
-        (ring(RINGS, RINGS + 0x2000, 1), "the rings of lane 0 have 1 slots, and the controller takes 2 to 1024"),
+        (
+            ring(RINGS, RINGS + 0x2000, 1),
+            "the rings of lane 0 have 1 slots, and the controller takes 2 to 1024",
+        ),
         (ring(RINGS, RINGS + 0x2000, 1025), "the rings of lane 0 have 1025 slots"),
-        (ring(RINGS, RINGS + 0x2000, u32::MAX), "the rings of lane 0 have 4294967295 slots"),
-        (ring(RINGS + 64, RINGS + 0x2000, 65), "the submission ring of lane 0 is not in whole pages of the window"),
-        (ring(RINGS, RINGS + 0x2010, 65), "the completion ring of lane 0 is not in whole pages of the window"),
-        (ring(MEMORY - 4096, RINGS, 65), "the submission ring of lane 0 is not in whole pages of the window"),
-        (ring(RINGS, MEMORY, 65), "the completion ring of lane 0 is not in whole pages of the window"),
-        (ring(0, RINGS, 65), "the submission ring of lane 0 is not in whole pages of the window"),
-        (ring(u64::MAX - 4095, RINGS, 65), "the submission ring of lane 0 is not in whole pages of the window"),
+        (
+            ring(RINGS, RINGS + 0x2000, u32::MAX),
+            "the rings of lane 0 have 4294967295 slots",
+        ),
+        (
+            ring(RINGS + 64, RINGS + 0x2000, 65),
+            "the submission ring of lane 0 is not in whole pages of the window",
+        ),
+        (
+            ring(RINGS, RINGS + 0x2010, 65),
+            "the completion ring of lane 0 is not in whole pages of the window",
+        ),
+        (
+            ring(MEMORY - 4096, RINGS, 65),
+            "the submission ring of lane 0 is not in whole pages of the window",
+        ),
+        (
+            ring(RINGS, MEMORY, 65),
+            "the completion ring of lane 0 is not in whole pages of the window",
+        ),
+        (
+            ring(0, RINGS, 65),
+            "the submission ring of lane 0 is not in whole pages of the window",
+        ),
+        (
+            ring(u64::MAX - 4095, RINGS, 65),
+            "the submission ring of lane 0 is not in whole pages of the window",
+        ),
     ];
     for (rings, part) in bad {
         let mut bench = Bench::new();
@@ -264,7 +340,9 @@ fn rings_are_checked() {
     }
     let bench = Bench::new();
     let mut n = bench.open();
-    assert!(words(n.create_lanes(&[rings(0), rings(1), rings(2)])).contains("2 lanes were needed, and 3 are to be created"));
+    assert!(
+        words(n.create_lanes(&[rings(0), rings(1), rings(2)])).contains("2 lanes were needed, and 3 are to be created")
+    );
     assert_eq!(bench.seen().cc & 1, 1);
 }
 

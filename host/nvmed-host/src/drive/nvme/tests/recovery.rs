@@ -2,7 +2,7 @@
 //! A mediator of this file goes round in the rings while the controller is mute, aborted and reset.
 
 use super::*;
-use crate::drive::nvme::{ABORT_AFTER, RESET_AFTER, RESETS};
+use crate::drive::nvme::{ABORT_AFTER, RESETS, RESET_AFTER};
 
 /// The mediator's side of a lane: what it put, and what it took.
 struct Side {
@@ -20,7 +20,16 @@ struct Side {
 impl Side {
     fn new(lane: usize) -> Self {
         let rings = rings(lane as u32);
-        Self { lane, rings, tail: 0, head: 0, phase: true, next_id: 0, outstanding: Vec::new(), taken: Vec::new() }
+        Self {
+            lane,
+            rings,
+            tail: 0,
+            head: 0,
+            phase: true,
+            next_id: 0,
+            outstanding: Vec::new(),
+            taken: Vec::new(),
+        }
     }
 
     /// Puts Reads of identifiers below 64.
@@ -32,7 +41,9 @@ impl Side {
             let mut entry = [0u8; 64];
             entry[0] = 2;
             entry[2..4].copy_from_slice(&self.next_id.to_le_bytes());
-            bench.memory.put(self.rings.submission + 64 * u64::from(self.tail), &entry);
+            bench
+                .memory
+                .put(self.rings.submission + 64 * u64::from(self.tail), &entry);
             self.tail = (self.tail + 1) % self.rings.entries;
             self.outstanding.push(self.next_id);
             self.next_id = (self.next_id + 1) % 64;
@@ -49,7 +60,11 @@ impl Side {
                 break;
             }
             let id = u16::from_le_bytes([entry[12], entry[13]]);
-            let at = self.outstanding.iter().position(|o| *o == id).expect("a stray completion");
+            let at = self
+                .outstanding
+                .iter()
+                .position(|o| *o == id)
+                .expect("a stray completion");
             self.outstanding.remove(at);
             self.taken.push((id, u16::from_le_bytes([entry[14], entry[15]]) >> 1));
             self.head = (self.head + 1) % self.rings.entries;
@@ -102,7 +117,10 @@ fn a_silent_command_is_aborted_and_the_others_go_on() {
     assert_eq!((n.oldest(0), n.is_recovering()), (None, false));
     seconds(&bench, &mut n, 60);
     side.go_round(&bench, &mut n, 200);
-    assert_eq!((bench.seen().aborts, bench.seen().enables, bench.seen().violations), (3, 1, 0));
+    assert_eq!(
+        (bench.seen().aborts, bench.seen().enables, bench.seen().violations),
+        (3, 1, 0)
+    );
 }
 
 #[test]
@@ -269,7 +287,11 @@ fn a_reset_that_fails_fails_the_drive() {
         (Fault::NeverDisabled, None, "did not become disabled within 1000 ms"),
         (Fault::FatalOnEnable, None, "while it should become ready"),
         (Fault::GoneOnEnable, None, "is gone"),
-        (Fault::Silent, None, "did not answer Identify Controller within 10000 ms"),
+        (
+            Fault::Silent,
+            None,
+            "did not answer Identify Controller within 10000 ms",
+        ),
         (Fault::Fatal, Some(6), "a fatal status"),
         (Fault::Gone, Some(6), "is gone"),
         (Fault::CommandId, Some(6), "which it does not have"),
@@ -320,7 +342,10 @@ fn a_controller_that_does_not_flush_after_a_reset_fails() {
         bench.fake().time += 1000;
         said = words(n.check());
     }
-    assert!(said.contains("did not answer Flush on lane 0 within 60000 ms after a reset"), "{said}");
+    assert!(
+        said.contains("did not answer Flush on lane 0 within 60000 ms after a reset"),
+        "{said}"
+    );
 }
 
 #[test]

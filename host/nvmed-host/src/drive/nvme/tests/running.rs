@@ -9,9 +9,15 @@ fn doorbells_reach_their_registers() {
     let mut n = bench.running();
     bench.memory.put(RINGS, &[0; 0x8000]);
     n.ring_submission(1, 64).unwrap();
-    assert_eq!((bench.seen().submission[2].doorbell, bench.seen().submission[1].doorbell), (64, 0));
+    assert_eq!(
+        (bench.seen().submission[2].doorbell, bench.seen().submission[1].doorbell),
+        (64, 0)
+    );
     n.ring_completion(1, 64).unwrap();
-    assert_eq!((bench.seen().completion[2].doorbell, bench.seen().completion[1].doorbell), (64, 0));
+    assert_eq!(
+        (bench.seen().completion[2].doorbell, bench.seen().completion[1].doorbell),
+        (64, 0)
+    );
     assert!(words(n.ring_submission(1, 65)).contains("the submission doorbell of lane 1 cannot say 65 of 65 slots"));
     assert!(words(n.ring_completion(0, u32::MAX)).contains("the completion doorbell of lane 0 cannot say"));
     assert!(words(n.ring_completion(2, 0)).contains("there is no lane 2"));
@@ -33,7 +39,13 @@ fn a_controller_that_is_gone_fails_for_ever() {
     bench.fake().gone = true;
     assert!(words(n.check()).contains("is gone"));
     bench.fake().gone = false;
-    for said in [words(n.check()), words(n.work()), words(n.ring_submission(0, 1)), words(n.ring_completion(0, 1)), words(n.abort(0))] {
+    for said in [
+        words(n.check()),
+        words(n.work()),
+        words(n.ring_submission(0, 1)),
+        words(n.ring_completion(0, 1)),
+        words(n.abort(0)),
+    ] {
         assert!(said.contains("is gone"), "{said}");
     }
     bench.fake().gone = true;
@@ -77,7 +89,10 @@ fn events_are_asked_for_reported_and_read() {
     for _ in 0..4 {
         n.work().unwrap();
     }
-    assert_eq!((bench.seen().logs_read.clone(), bench.seen().events_asked), (vec![2], 4));
+    assert_eq!(
+        (bench.seen().logs_read.clone(), bench.seen().events_asked),
+        (vec![2], 4)
+    );
     // one without a log page; one of each other, at once, and more than there are requests
     assert!(bench.fake().raise(0x00_00_04));
     n.work().unwrap();
@@ -87,7 +102,10 @@ fn events_are_asked_for_reported_and_read() {
     for _ in 0..12 {
         n.work().unwrap();
     }
-    assert_eq!((bench.seen().logs_read.clone(), bench.seen().events_asked), (vec![2, 1, 1, 1], 8));
+    assert_eq!(
+        (bench.seen().logs_read.clone(), bench.seen().events_asked),
+        (vec![2, 1, 1, 1], 8)
+    );
     n.check().unwrap();
     n.close().unwrap();
     assert_eq!(bench.seen().violations, 0);
@@ -115,7 +133,12 @@ fn a_namespace_that_changes_is_looked_at_again() {
     bench.fake().namespace[0..2].copy_from_slice(&[255, 15]);
     assert!(bench.fake().raise(0x04_00_02));
     let said: Vec<String> = (0..6).map(|_| words(n.work())).collect();
-    assert!(said.last().unwrap().contains("namespace 1 has 4095 blocks, and the extents end at block 4096"), "{said:?}");
+    assert!(
+        said.last()
+            .unwrap()
+            .contains("namespace 1 has 4095 blocks, and the extents end at block 4096"),
+        "{said:?}"
+    );
 }
 
 #[test]

@@ -14,10 +14,13 @@ use nix::sys::statvfs::fstatvfs;
 use nix::unistd::{lseek, Whence};
 use vm_memory::VolatileSlice;
 
-use super::vectored::{self, Way};
+use super::calls::{self, Way};
+use super::dirty::{Dirty, CHUNK};
 use super::{Store, Wait};
 use crate::drive::DriveError;
 
+/// Chunks that a sync may hand to the device at once.
+const FEW_CHUNKS: usize = 2;
 /// Zeros, for file systems without holes.
 static ZEROS: [u8; 65536] = [0; 65536];
 
@@ -27,6 +30,9 @@ pub struct FileStore {
     words: String,
     bytes: u64,
     waits: bool,
+    dirty: Dirty,
+    /// Whether the file system writes parts of a file back.
+    writes_back: AtomicBool,
     /// Whether the file system takes reads and writes that may not wait.
     reads_at_once: AtomicBool,
     writes_at_once: AtomicBool,
@@ -89,6 +95,8 @@ impl FileStore {
             words,
             bytes,
             waits: !in_memory,
+            dirty: Dirty::new(bytes),
+            writes_back: AtomicBool::new(!in_memory),
             reads_at_once: AtomicBool::new(true),
             writes_at_once: AtomicBool::new(true),
             has_holes: AtomicBool::new(true),
@@ -102,7 +110,7 @@ impl FileStore {
     }
 
     fn move_all(&self, way: Way, offset: u64, places: &[VolatileSlice<'_>], flags: i32) -> io::Result<()> {
-        vectored::move_all(self.file.as_fd(), way, offset, places, flags)
+        calls::move_all(self.file.as_fd(), way, offset, places, flags)
     }
 
     /// Moves the bytes without waiting, or says that it would wait.
@@ -152,6 +160,30 @@ impl FileStore {
             .ok()
             .and_then(|from| lseek(self.fd(), from, Whence::SeekHole).ok());
         at.and_then(|at| u64::try_from(at).ok()).unwrap_or(offset)
+    }
+
+    /// Writes chunks back, one after another. A sync that finds much to write hands all of it to the device at once, and whatever others need of that
+    /// device then waits behind it.
+    fn write_back(&self, chunks: &[u64]) -> io::Result<()> {
+        for offset in chunks {
+            if !self.writes_back.load(Ordering::Relaxed) {
+                return Ok(());
+            }
+            match calls::write_back(self.file.as_fd(), *offset, CHUNK) {
+                Ok(()) => {}
+                Err(error) if error.kind() == io::ErrorKind::Interrupted => {}
+                Err(error)
+                    if matches!(
+                        error.raw_os_error(),
+                        Some(libc::EINVAL | libc::ENOSYS | libc::EOPNOTSUPP)
+                    ) =>
+                {
+                    self.writes_back.store(false, Ordering::Relaxed);
+                }
+                Err(error) => return Err(error),
+            }
+        }
+        Ok(())
     }
 
     fn write_zeros(&self, offset: u64, bytes: u64) -> io::Result<()> {
@@ -254,10 +286,13 @@ impl Store for FileStore {
     }
 
     fn write(&self, offset: u64, places: &[VolatileSlice<'_>], wait: Wait) -> io::Result<()> {
-        match wait {
+        let written = match wait {
             Wait::Allowed => self.move_all(Way::Write, offset, places, 0),
             Wait::Never => self.move_at_once(Way::Write, offset, places),
-        }
+        };
+        self.dirty
+            .mark(offset, places.iter().map(|place| place.len() as u64).sum());
+        written
     }
 
     fn zero(&self, offset: u64, bytes: u64, gives_back: bool) -> io::Result<()> {
@@ -285,6 +320,10 @@ impl Store for FileStore {
     }
 
     fn sync(&self) -> io::Result<()> {
+        let chunks = self.dirty.take();
+        if chunks.len() > FEW_CHUNKS {
+            self.write_back(&chunks)?;
+        }
         loop {
             match self.file.sync_data() {
                 Err(error) if error.kind() == io::ErrorKind::Interrupted => {}

@@ -1,9 +1,10 @@
 #![deny(unsafe_code)]
 //! Where a simulated drive keeps its bytes: memory, or a file.
 
+mod calls;
+mod dirty;
 mod file;
 mod memory;
-mod vectored;
 
 #[cfg(test)]
 pub(super) mod faulty;

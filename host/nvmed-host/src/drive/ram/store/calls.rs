@@ -1,5 +1,6 @@
 #![allow(unsafe_code)]
-//! Moves bytes between a file and places in memory that others write, by one system call for many places.
+//! System calls on files that the standard library does not have: bytes go between a file and many places in memory that others write, and a part of a
+//! file is written back.
 
 use std::io;
 use std::os::fd::{AsRawFd, BorrowedFd};
@@ -105,6 +106,27 @@ fn move_some(
         }
     };
     usize::try_from(moved).map_err(|_| io::Error::last_os_error())
+}
+
+/// Writes a part of a file back to its device, and waits for that. It makes nothing durable: neither what the file system knows of the blocks, nor the
+/// device's cache.
+///
+/// # Errors
+///
+/// What the system says: as for `fdatasync`, an error of any write to the file may be said here, and is not said again.
+pub fn write_back(file: BorrowedFd<'_>, offset: u64, bytes: u64) -> io::Result<()> {
+    let (from, length) = (
+        i64::try_from(offset).map_err(io::Error::other)?,
+        i64::try_from(bytes).map_err(io::Error::other)?,
+    );
+    let all = libc::SYNC_FILE_RANGE_WAIT_BEFORE | libc::SYNC_FILE_RANGE_WRITE | libc::SYNC_FILE_RANGE_WAIT_AFTER;
+    // SAFETY: the call takes numbers alone, and the descriptor is open as long as `file` is borrowed.
+    let status = unsafe { libc::sync_file_range(file.as_raw_fd(), from, length, all) };
+    if status == 0 {
+        Ok(())
+    } else {
+        Err(io::Error::last_os_error())
+    }
 }
 
 #[cfg(test)]
