@@ -25,7 +25,10 @@ const RINGS: u64 = FROM + 0x1_0000;
 const LISTS: u64 = FROM + 0xf_0000;
 const DATA: u64 = FROM + 0x10_0000;
 const SLOTS: u32 = 65;
-const BUDGET: Budget = Budget { commands: 64, bytes: 1 << 20 };
+const BUDGET: Budget = Budget {
+    commands: 64,
+    bytes: 1 << 20,
+};
 
 struct Lane {
     rings: LaneRings,
@@ -47,7 +50,11 @@ fn path(name: &str) -> PathBuf {
 
 impl Bench {
     fn put(&self, host: u64, bytes: &[u8]) {
-        self.window.slice(host, bytes.len()).unwrap().write_slice(bytes, 0).unwrap();
+        self.window
+            .slice(host, bytes.len())
+            .unwrap()
+            .write_slice(bytes, 0)
+            .unwrap();
     }
 
     fn get(&self, host: u64, len: usize) -> Vec<u8> {
@@ -89,7 +96,10 @@ impl Bench {
         it.head = (it.head + 1) % SLOTS;
         it.phase ^= it.head == 0;
         self.drive.ring_completion(lane, self.lanes[lane].head).unwrap();
-        Some((u16::from_le_bytes([entry[12], entry[13]]), u16::from_le_bytes([entry[14], entry[15]]) >> 1))
+        Some((
+            u16::from_le_bytes([entry[12], entry[13]]),
+            u16::from_le_bytes([entry[14], entry[15]]) >> 1,
+        ))
     }
 
     fn wait(&mut self, lane: usize) -> (u16, u16) {
@@ -115,7 +125,12 @@ impl Bench {
 }
 
 fn needs(blocks: u64) -> Needs {
-    Needs { admin: FROM, blocks, lanes: 2, interrupts: false }
+    Needs {
+        admin: FROM,
+        blocks,
+        lanes: 2,
+        interrupts: false,
+    }
 }
 
 fn open(window: &Arc<Window>, blocks: u64) -> Result<QtestDrive, DriveError> {
@@ -140,9 +155,23 @@ fn lanes_of_a_real_controller() {
     let drive = Box::new(open(&window, 2048).unwrap());
     println!("{}", drive.describe());
     let lanes = (0..2u64)
-        .map(|i| LaneRings { submission: RINGS + 0x1_0000 * i, completion: RINGS + 0x1_0000 * i + 0x2000, entries: SLOTS })
-        .map(|rings| Lane { rings, tail: 0, head: 0, phase: true });
-    let mut b = Bench { window, drive, lanes: lanes.collect(), command: 0 };
+        .map(|i| LaneRings {
+            submission: RINGS + 0x1_0000 * i,
+            completion: RINGS + 0x1_0000 * i + 0x2000,
+            entries: SLOTS,
+        })
+        .map(|rings| Lane {
+            rings,
+            tail: 0,
+            head: 0,
+            phase: true,
+        });
+    let mut b = Bench {
+        window,
+        drive,
+        lanes: lanes.collect(),
+        command: 0,
+    };
     let rings: Vec<LaneRings> = b.lanes.iter().map(|lane| lane.rings).collect();
     b.drive.create_lanes(&rings).unwrap();
     b.drive.work(BUDGET).unwrap();
@@ -179,7 +208,10 @@ fn more(b: &mut Bench) {
     b.put(DATA + 0x200, &data);
     for i in 0..32u64 {
         b.put(LISTS + 8 * i, &(DATA + 0x1000 * (i + 1)).to_le_bytes());
-        b.put(LISTS + 0x1000 + 8 * i, &(DATA + 0x10_0000 + 0x1000 * (i + 1)).to_le_bytes());
+        b.put(
+            LISTS + 0x1000 + 8 * i,
+            &(DATA + 0x10_0000 + 0x1000 * (i + 1)).to_le_bytes(),
+        );
     }
     assert_eq!(b.run(0, 1, DATA + 0x200, LISTS, 100, 255), 0);
     assert_eq!(b.run(1, 2, DATA + 0x10_0200, LISTS + 0x1000, 100, 255), 0);
@@ -210,7 +242,8 @@ fn resets(b: &mut Bench) {
         b.drive.recover().unwrap().reset().unwrap();
         for lane in 0..2 {
             for i in 0..20 {
-                outstanding[lane].push(b.give(lane, 2, DATA + 0x1000 * i, 0, i, 0)); // while the reset goes on
+                outstanding[lane].push(b.give(lane, 2, DATA + 0x1000 * i, 0, i, 0));
+                // while the reset goes on
             }
             b.ring(lane);
         }
@@ -218,7 +251,10 @@ fn resets(b: &mut Bench) {
         for lane in 0..2 {
             while !outstanding[lane].is_empty() {
                 let (id, status) = b.wait(lane);
-                let at = outstanding[lane].iter().position(|o| *o == id).expect("a stray completion");
+                let at = outstanding[lane]
+                    .iter()
+                    .position(|o| *o == id)
+                    .expect("a stray completion");
                 outstanding[lane].remove(at);
                 assert!(status == 0 || status == 6, "{status:#x}");
                 failed += u32::from(status == 6);

@@ -62,7 +62,9 @@ fn value_of(answer: &str) -> Option<u32> {
     if digits.is_empty() || digits.len() > 16 || !digits.bytes().all(|c| c.is_ascii_hexdigit()) {
         return None;
     }
-    u64::from_str_radix(digits, 16).ok().and_then(|value| u32::try_from(value).ok())
+    u64::from_str_radix(digits, 16)
+        .ok()
+        .and_then(|value| u32::try_from(value).ok())
 }
 
 impl Socket {
@@ -140,7 +142,9 @@ impl Socket {
         match self.stream.read(&mut bytes) {
             Ok(0) => return failed("QEMU has closed it"),
             Ok(count) => self.received.extend_from_slice(bytes.get(..count).unwrap_or(&bytes)),
-            Err(why) if why.kind() == ErrorKind::WouldBlock || why.kind() == ErrorKind::Interrupted => return Ok(false),
+            Err(why) if why.kind() == ErrorKind::WouldBlock || why.kind() == ErrorKind::Interrupted => {
+                return Ok(false)
+            }
             Err(why) if why.kind() == ErrorKind::ConnectionReset => return failed("QEMU has closed it"),
             Err(why) => return failed(format!("cannot be read: {why}")),
         }
@@ -163,7 +167,11 @@ impl Socket {
         if text.starts_with("IRQ ") {
             return Ok(());
         }
-        let shown: String = text.chars().take(100).map(|c| if c.is_control() { '?' } else { c }).collect();
+        let shown: String = text
+            .chars()
+            .take(100)
+            .map(|c| if c.is_control() { '?' } else { c })
+            .collect();
         let Some((expected, _)) = self.expected.pop_front() else {
             return failed(format!("an answer came to no command: {shown}"));
         };
@@ -219,7 +227,11 @@ impl Socket {
                 continue;
             }
             let left = end.saturating_duration_since(Instant::now());
-            let events = if self.unsent.is_empty() { PollFlags::POLLIN } else { PollFlags::POLLIN | PollFlags::POLLOUT };
+            let events = if self.unsent.is_empty() {
+                PollFlags::POLLIN
+            } else {
+                PollFlags::POLLIN | PollFlags::POLLOUT
+            };
             if left.is_zero() {
                 return failed("QEMU does not answer in time");
             }
@@ -274,7 +286,11 @@ impl Socket {
     /// PCI configuration mechanism #1, bus 0: bit 31 enables, then bus, device, function and offset.
     fn select(&mut self, place: Place, offset: u8) -> Result<(), DriveError> {
         let address = 1 << 31 | u32::from(place.device & 31) << 11 | u32::from(place.function & 7) << 8;
-        self.ask(&format!("outl 0xcf8 {:#x}", address | u32::from(offset & 0xfc)), Expected::Done).map(drop)
+        self.ask(
+            &format!("outl 0xcf8 {:#x}", address | u32::from(offset & 0xfc)),
+            Expected::Done,
+        )
+        .map(drop)
     }
 
     /// Reads a dword of configuration space, and waits for it.

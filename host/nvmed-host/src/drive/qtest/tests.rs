@@ -13,7 +13,12 @@ use crate::memory::Piece;
 
 const FROM: u64 = 0x10_0000;
 const MEMORY: u64 = 3 << 20;
-const NEEDS: Needs = Needs { admin: FROM, blocks: 4096, lanes: 2, interrupts: false };
+const NEEDS: Needs = Needs {
+    admin: FROM,
+    blocks: 4096,
+    lanes: 2,
+    interrupts: false,
+};
 
 /// What the server does; at the command number `at` it sends something else, or closes.
 #[derive(Clone)]
@@ -70,7 +75,10 @@ impl State {
     }
 
     fn in_bar(&self, address: u64) -> Option<u32> {
-        let (base, bytes) = (u64::from(self.config[4] & !15), u64::from((!self.bar_bits).wrapping_add(1)));
+        let (base, bytes) = (
+            u64::from(self.config[4] & !15),
+            u64::from((!self.bar_bits).wrapping_add(1)),
+        );
         (self.config[1] & 2 != 0 && address >= base && address - base < bytes).then(|| (address - base) as u32)
     }
 
@@ -132,7 +140,10 @@ impl Bench {
             doorbells: Vec::new(),
         };
         change(&mut state);
-        Self { memory, state: Arc::new(Mutex::new(state)) }
+        Self {
+            memory,
+            state: Arc::new(Mutex::new(state)),
+        }
     }
 
     fn state(&self) -> MutexGuard<'_, State> {
@@ -206,7 +217,11 @@ fn refused(part: &str, change: impl FnOnce(&mut State)) {
 
 fn rings(lane: u64) -> LaneRings {
     let at = 0x11_0000 + 0x4000 * lane;
-    LaneRings { submission: at, completion: at + 0x2000, entries: 65 }
+    LaneRings {
+        submission: at,
+        completion: at + 0x2000,
+        entries: 65,
+    }
 }
 
 /// Looks until it is so, for ten seconds.
@@ -218,17 +233,27 @@ fn soon(what: impl Fn() -> bool) {
     }
 }
 
-const BUDGET: Budget = Budget { commands: 64, bytes: 1 << 20 };
+const BUDGET: Budget = Budget {
+    commands: 64,
+    bytes: 1 << 20,
+};
 
 #[test]
 fn a_good_drive_is_opened_used_and_closed() {
     let bench = Bench::new(|s| {
         s.config[1] = 0x406; // left on
-        (s.at, s.instead) = (Some(8), Some(b"IRQ raise 3\nIRQ lower 3\nOK\n".to_vec())); // a write of a port
+        (s.at, s.instead) = (Some(8), Some(b"IRQ raise 3\nIRQ lower 3\nOK\n".to_vec()));
+        // a write of a port
     });
     bench.memory.put(MEMORY - 4, &0xabcd_ef01u32.to_le_bytes());
     let (mut drive, thread) = bench.open();
-    assert!(drive.describe().starts_with("of QEMU at 00:03.0: A fake controller, serial SN 1"), "{}", drive.describe());
+    assert!(
+        drive
+            .describe()
+            .starts_with("of QEMU at 00:03.0: A fake controller, serial SN 1"),
+        "{}",
+        drive.describe()
+    );
     drive.create_lanes(&[rings(0), rings(1)]).unwrap();
     let s = bench.seen();
     assert_eq!((s.config[4], s.config[5], s.config[1]), (0xfe00_0004, 0, 0x406));
@@ -244,7 +269,10 @@ fn a_good_drive_is_opened_used_and_closed() {
     drive.close().unwrap();
     thread.join().unwrap();
     let s = bench.seen();
-    assert_eq!((s.config[1], s.nvme.violations, s.nvme.shutdowns, s.nvme.deleted), (0x400, 0, 1, 4));
+    assert_eq!(
+        (s.config[1], s.nvme.violations, s.nvme.shutdowns, s.nvme.deleted),
+        (0x400, 0, 1, 4)
+    );
     assert_eq!(bench.memory.get(MEMORY - 4, 4), 0xabcd_ef01u32.to_le_bytes());
 }
 
@@ -261,7 +289,10 @@ fn a_fatal_status_leads_to_a_reset() {
         assert!(begin.elapsed() < Duration::from_secs(10));
         std::thread::sleep(Duration::from_micros(200));
     }
-    assert_eq!((bench.seen().nvme.submission[2].slots, bench.seen().nvme.violations), (65, 0));
+    assert_eq!(
+        (bench.seen().nvme.submission[2].slots, bench.seen().nvme.violations),
+        (65, 0)
+    );
     drive.recover().unwrap().reset().unwrap();
     while drive.recover().unwrap().is_recovering() {
         drive.work(BUDGET).unwrap();
@@ -284,7 +315,10 @@ fn places() {
         });
         let (drive, thread) = bench.open();
         assert!(drive.describe().contains("of QEMU at 00:1f.7: "));
-        assert_eq!((bench.seen().config[4], bench.seen().config[5]), (0xfe00_0000, 0x1234_5678));
+        assert_eq!(
+            (bench.seen().config[4], bench.seen().config[5]),
+            (0xfe00_0000, 0x1234_5678)
+        );
         let closed = drive.close();
         assert_eq!(closed.is_ok(), round == 0);
         if let Err(why) = closed {
@@ -298,22 +332,37 @@ fn places() {
 #[test]
 fn the_function_is_checked() {
     refused("there is no NVMe function on bus 0", |s| s.functions = 0);
-    refused("there are two NVMe functions on bus 0: 00:03.0 and 00:04.0", |s| s.functions = 2);
+    refused("there are two NVMe functions on bus 0: 00:03.0 and 00:04.0", |s| {
+        s.functions = 2
+    });
     refused("there is no NVMe function on bus 0", |s| s.config[2] = 0x0108_0102);
-    refused("BAR0 is no memory of 32 or 64 bits: 0x0", |s| (s.bar_bits, s.config[4]) = (0, 0));
+    refused("BAR0 is no memory of 32 or 64 bits: 0x0", |s| {
+        (s.bar_bits, s.config[4]) = (0, 0)
+    });
     refused("BAR0 is no memory of 32 or 64 bits", |s| s.config[4] = 1);
     refused("BAR0 is no memory of 32 or 64 bits", |s| s.config[4] = 2);
     refused("BAR0 has 0x10 bytes, not 4 KiB to 4 MiB", |s| s.bar_bits = 0xffff_fff0);
-    refused("BAR0 has 0x1000000 bytes, not 4 KiB to 4 MiB", |s| s.bar_bits = 0xff00_0000);
-    refused("BAR0 has 0xfff4000 bytes, not 4 KiB to 4 MiB", |s| s.bar_bits = 0xf000_c000);
+    refused("BAR0 has 0x1000000 bytes, not 4 KiB to 4 MiB", |s| {
+        s.bar_bits = 0xff00_0000
+    });
+    refused("BAR0 has 0xfff4000 bytes, not 4 KiB to 4 MiB", |s| {
+        s.bar_bits = 0xf000_c000
+    });
     refused("not 4 KiB to 4 MiB", |s| s.bar_bits = 0xf0ff_c000);
     refused("cannot be switched on: the command register is 0x404", |s| s.deaf = 2);
     refused("cannot be switched on: the command register is 0x402", |s| s.deaf = 4);
-    refused("BAR0 cannot be put at 0xfe000000: it reads as 0xffffc004", |s| s.stuck = true);
+    refused("BAR0 cannot be put at 0xfe000000: it reads as 0xffffc004", |s| {
+        s.stuck = true
+    });
     refused("QEMU's RAM at 0x100000 is not the window's memory", |s| s.ram = 0);
-    refused("QEMU's RAM at 0x2ffffc is not the window's memory", |s| s.ram = MEMORY - 4);
+    refused("QEMU's RAM at 0x2ffffc is not the window's memory", |s| {
+        s.ram = MEMORY - 4
+    });
     refused("transfers at most 8 KiB", |s| s.nvme.controller[77] = 1);
-    refused("the doorbells of 2 lanes end at 0x1018, beyond the 0x1000 bytes of BAR0", |s| s.bar_bits = 0xffff_f000);
+    refused(
+        "the doorbells of 2 lanes end at 0x1018, beyond the 0x1000 bytes of BAR0",
+        |s| s.bar_bits = 0xffff_f000,
+    );
     refused("did not become ready within 500 ms", |s| {
         (s.nvme.fault, s.nvme.cap) = (Fault::NeverReady, s.nvme.cap & !(0xff << 24) | 1 << 24);
     });
@@ -323,16 +372,34 @@ fn the_function_is_checked() {
 fn the_window_has_to_lie_where_qemu_has_memory() {
     let with = |pieces: &[(u64, u64)], part: &str, ram: u64| {
         let mut bench = Bench::new(|s| s.ram = ram);
-        let pieces: Vec<Piece> = pieces.iter().map(|(host, bytes)| Piece { host: *host, bytes: *bytes }).collect();
+        let pieces: Vec<Piece> = pieces
+            .iter()
+            .map(|(host, bytes)| Piece {
+                host: *host,
+                bytes: *bytes,
+            })
+            .collect();
         let end = pieces.iter().map(|p| p.host + p.bytes).max().unwrap();
         bench.memory = TestMemory::with(end, pieces);
         bench.refused_with(part);
     };
-    with(&[(0xff000, 0x2000)], "a piece of the window, 0xff000 and 0x2000 bytes, is not in 0x100000 to 0xb0000000", MEMORY);
+    with(
+        &[(0xff000, 0x2000)],
+        "a piece of the window, 0xff000 and 0x2000 bytes, is not in 0x100000 to 0xb0000000",
+        MEMORY,
+    );
     with(&[(0xafff_f000, 0x2000)], "is not in 0x100000 to 0xb0000000", MEMORY);
-    with(&[(0xafff_f000, 0x1000)], "QEMU's RAM at 0xaffff000 is not the window's memory", MEMORY);
+    with(
+        &[(0xafff_f000, 0x1000)],
+        "QEMU's RAM at 0xaffff000 is not the window's memory",
+        MEMORY,
+    );
     with(&[(0xb000_0000, 0x2000)], "is not in 0x100000 to 0xb0000000", MEMORY);
-    with(&[(FROM, 0x10_0000), (0x20_0000, 0x1000)], "QEMU's RAM at 0x200000 is not the window's memory", 0x20_0000);
+    with(
+        &[(FROM, 0x10_0000), (0x20_0000, 0x1000)],
+        "QEMU's RAM at 0x200000 is not the window's memory",
+        0x20_0000,
+    );
 }
 
 /// Each kind of bad answer, to each of the first commands, among which are reads and writes.
@@ -359,8 +426,12 @@ fn answers_are_checked() {
         }
         refused("QEMU has closed it", |s| s.at = Some(at));
     }
-    refused("an answer is too long", |s| (s.at, s.instead) = (Some(3), Some(vec![b'x'; 129])));
-    refused("qtest socket: an answer", |s| (s.at, s.instead) = (Some(3), Some(b"OK\nOK\n".to_vec())));
+    refused("an answer is too long", |s| {
+        (s.at, s.instead) = (Some(3), Some(vec![b'x'; 129]))
+    });
+    refused("qtest socket: an answer", |s| {
+        (s.at, s.instead) = (Some(3), Some(b"OK\nOK\n".to_vec()))
+    });
 }
 
 fn pair() -> (Socket, UnixStream) {
@@ -376,7 +447,11 @@ fn silence_is_given_up_in_time() {
         let (mut socket, mut theirs) = pair();
         theirs.write_all(sent.as_bytes()).unwrap();
         let begin = Instant::now();
-        assert!(socket.read(0).unwrap_err().to_string().contains("QEMU does not answer in time"));
+        assert!(socket
+            .read(0)
+            .unwrap_err()
+            .to_string()
+            .contains("QEMU does not answer in time"));
         assert!((100..9000).contains(&begin.elapsed().as_millis()));
         assert!(socket.read(0).unwrap_err().to_string().contains("has failed before"));
         assert!(socket.work().unwrap_err().to_string().contains("has failed before"));
@@ -384,13 +459,21 @@ fn silence_is_given_up_in_time() {
     // interrupts without end
     let (mut socket, mut theirs) = pair();
     let thread = std::thread::spawn(move || while theirs.write_all(b"IRQ raise 1\n").is_ok() {});
-    assert!(socket.read(0).unwrap_err().to_string().contains("QEMU does not answer in time"));
+    assert!(socket
+        .read(0)
+        .unwrap_err()
+        .to_string()
+        .contains("QEMU does not answer in time"));
     drop(socket);
     thread.join().unwrap();
     // an answer to no command
     let (mut socket, mut theirs) = pair();
     theirs.write_all(b"OK 0x1\nOK\n").unwrap();
-    assert!(socket.read(0).unwrap_err().to_string().contains("an answer came to no command: OK"));
+    assert!(socket
+        .read(0)
+        .unwrap_err()
+        .to_string()
+        .contains("an answer came to no command: OK"));
 }
 
 #[test]
@@ -401,7 +484,11 @@ fn posted_writes_wait_for_nothing() {
         socket.post(0x1000, value).unwrap();
     }
     assert!(socket.is_busy());
-    assert!(socket.post(0, 0).unwrap_err().to_string().contains("QEMU has not answered 4096 commands"));
+    assert!(socket
+        .post(0, 0)
+        .unwrap_err()
+        .to_string()
+        .contains("QEMU has not answered 4096 commands"));
     assert!(begin.elapsed() < Duration::from_secs(5));
     // QEMU takes nothing more from its socket: the rest is kept and sent later
     let (mut socket, theirs) = pair();
@@ -440,7 +527,11 @@ fn posted_writes_wait_for_nothing() {
     socket.work().unwrap();
     socket.post(0, 0).unwrap();
     std::thread::sleep(Duration::from_millis(120));
-    assert!(socket.work().unwrap_err().to_string().contains("QEMU does not answer in time"));
+    assert!(socket
+        .work()
+        .unwrap_err()
+        .to_string()
+        .contains("QEMU does not answer in time"));
 }
 
 #[test]
@@ -458,7 +549,11 @@ fn values_that_nobody_waits_for_are_taken_all_the_same() {
     socket.want(4).unwrap();
     socket.forget_value();
     theirs.write_all(b"OK\n").unwrap();
-    assert!(socket.work().unwrap_err().to_string().contains("an answer is not understood: OK"));
+    assert!(socket
+        .work()
+        .unwrap_err()
+        .to_string()
+        .contains("an answer is not understood: OK"));
 }
 
 #[test]
@@ -489,7 +584,11 @@ fn qemu_ends() {
     bench.state().at = Some(commands);
     drive.ring_submission(0, 1).unwrap(); // it isn't known yet
     thread.join().unwrap();
-    assert!(drive.work(BUDGET).unwrap_err().to_string().contains("QEMU has closed it"));
+    assert!(drive
+        .work(BUDGET)
+        .unwrap_err()
+        .to_string()
+        .contains("QEMU has closed it"));
     assert!(drive.check().is_err());
     assert!(drive.ring_submission(0, 2).is_err());
     assert!(drive.close().is_err());
@@ -501,7 +600,11 @@ fn qemu_stops() {
     let bench = Bench::new(|_| {});
     let (mut drive, thread) = bench.open();
     drive.create_lanes(&[rings(0), rings(1)]).unwrap();
-    drive.controller.access_mut().socket.set_wait(Duration::from_millis(300));
+    drive
+        .controller
+        .access_mut()
+        .socket
+        .set_wait(Duration::from_millis(300));
     bench.state().silent_from = 0;
     let begin = Instant::now();
     let mut longest = Duration::ZERO;
@@ -537,7 +640,18 @@ fn random_answers() {
         random ^= random << 17;
         random
     };
-    let words: [&[u8]; 10] = [b"OK", b"OK 0x", b"IRQ ", b"\n", b"0", b"ffffffff", b"FAIL", b"\xff\xfe", b" ", b"OK\n"];
+    let words: [&[u8]; 10] = [
+        b"OK",
+        b"OK 0x",
+        b"IRQ ",
+        b"\n",
+        b"0",
+        b"ffffffff",
+        b"FAIL",
+        b"\xff\xfe",
+        b" ",
+        b"OK\n",
+    ];
     let (mut good, mut rounds) = (0, 0);
     while rounds < 20_000 {
         let (mut socket, mut theirs) = pair();
@@ -549,7 +663,11 @@ fn random_answers() {
             }
             let wanted = next() % 2 == 0;
             if next() % 8 != 0 {
-                bytes = if wanted { b"OK 0xffffffff\n".to_vec() } else { b"OK\n".to_vec() };
+                bytes = if wanted {
+                    b"OK 0xffffffff\n".to_vec()
+                } else {
+                    b"OK\n".to_vec()
+                };
             }
             let posted = if wanted { socket.want(0) } else { socket.post(0, 1) };
             if posted.is_err() || theirs.write_all(&bytes).is_err() || socket.work().is_err() {

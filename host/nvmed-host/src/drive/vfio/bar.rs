@@ -24,7 +24,9 @@ unsafe impl Send for Bar {}
 impl Bar {
     /// Maps `bytes` bytes of a device's file from `offset` on; not 0, and at least 4.
     pub fn map(device: BorrowedFd<'_>, offset: u64, bytes: u32) -> io::Result<Self> {
-        let length = NonZeroUsize::new(bytes as usize).filter(|_| bytes >= 4).ok_or(io::ErrorKind::InvalidInput)?;
+        let length = NonZeroUsize::new(bytes as usize)
+            .filter(|_| bytes >= 4)
+            .ok_or(io::ErrorKind::InvalidInput)?;
         let offset = i64::try_from(offset).map_err(|_| io::ErrorKind::InvalidInput)?;
         let protection = ProtFlags::PROT_READ | ProtFlags::PROT_WRITE;
         // SAFETY: the kernel chooses the place, so that nothing else is mapped over.

@@ -11,8 +11,8 @@ use nix::sys::eventfd::{EfdFlags, EventFd};
 
 use super::bar::Bar;
 use super::kernel::{
-    self, DmaMap, Kernel, API_VERSION, CAPABILITY_RANGES, DEVICE_PCI, DEVICE_RESET, GROUP_VIABLE, IOMMU_CAPABILITIES, IRQ_EVENTFD,
-    MOST_RANGES, REGION_BAR0, REGION_CONFIG, REGION_MMAP, REGION_READ, REGION_WRITE, TYPE1V2,
+    self, DmaMap, Kernel, API_VERSION, CAPABILITY_RANGES, DEVICE_PCI, DEVICE_RESET, GROUP_VIABLE, IOMMU_CAPABILITIES,
+    IRQ_EVENTFD, MOST_RANGES, REGION_BAR0, REGION_CONFIG, REGION_MMAP, REGION_READ, REGION_WRITE, TYPE1V2,
 };
 use crate::drive::nvme::DriveMemory;
 use crate::drive::{DriveError, Reach};
@@ -81,7 +81,9 @@ impl Paths<'_> {
     fn node(&self) -> Option<(PathBuf, PathBuf)> {
         let iommufd = self.root.join("dev/iommu");
         let entries = std::fs::read_dir(self.device().join("vfio-dev")).ok()?;
-        let name = entries.filter_map(|entry| entry.ok()?.file_name().into_string().ok()).find(|name| name.starts_with("vfio"))?;
+        let name = entries
+            .filter_map(|entry| entry.ok()?.file_name().into_string().ok())
+            .find(|name| name.starts_with("vfio"))?;
         let node = self.vfio("devices").join(name);
         (node.exists() && iommufd.exists()).then_some((node, iommufd))
     }
@@ -89,7 +91,9 @@ impl Paths<'_> {
 
 /// Whether a text is an address such as 0000:01:00.0.
 fn is_address(text: &str) -> bool {
-    (7..16).contains(&text.len()) && text.chars().all(|c| c.is_ascii_hexdigit() || c == ':' || c == '.') && !text.contains("..")
+    (7..16).contains(&text.len())
+        && text.chars().all(|c| c.is_ascii_hexdigit() || c == ':' || c == '.')
+        && !text.contains("..")
 }
 
 impl Device {
@@ -111,7 +115,13 @@ impl Device {
             return Self::by_group(kernel, &paths);
         };
         match by_space(&*kernel, &node, &iommufd) {
-            Ok((file, mapping, ranges)) => Ok(Self { kernel, file: Some(file), mapping, ranges, config_at: 0 }),
+            Ok((file, mapping, ranges)) => Ok(Self {
+                kernel,
+                file: Some(file),
+                mapping,
+                ranges,
+                config_at: 0,
+            }),
             Err(why) => {
                 tracing::info!("{why}: the group of {address} is used instead");
                 Self::by_group(kernel, &paths)
@@ -122,13 +132,28 @@ impl Device {
     fn by_group(kernel: Box<dyn Kernel>, paths: &Paths<'_>) -> Result<Self, DriveError> {
         let container = open_container(&*kernel, &paths.vfio("vfio"))?;
         let (group, name) = open_group(&*kernel, paths)?;
-        why(kernel.set_container(group.as_fd(), container.as_fd()), || format!("group {name} cannot be put into a container"))?;
-        why(kernel.set_iommu(container.as_fd(), TYPE1V2), || "the I/O MMU cannot be set up".into())?;
+        why(kernel.set_container(group.as_fd(), container.as_fd()), || {
+            format!("group {name} cannot be put into a container")
+        })?;
+        why(kernel.set_iommu(container.as_fd(), TYPE1V2), || {
+            "the I/O MMU cannot be set up".into()
+        })?;
         let ranges = container_ranges(&*kernel, container.as_fd())?;
         let address = CString::new(paths.address).unwrap_or_default();
-        let device = why(kernel.device(group.as_fd(), &address), || format!("the group does not give {}", paths.address))?;
-        let mapping = Mapping::Group { container, _group: group };
-        Ok(Self { kernel, file: Some(File::from(device)), mapping, ranges, config_at: 0 })
+        let device = why(kernel.device(group.as_fd(), &address), || {
+            format!("the group does not give {}", paths.address)
+        })?;
+        let mapping = Mapping::Group {
+            container,
+            _group: group,
+        };
+        Ok(Self {
+            kernel,
+            file: Some(File::from(device)),
+            mapping,
+            ranges,
+            config_at: 0,
+        })
     }
 
     /// Host addresses that the device can be given, in ascending order.
@@ -137,12 +162,17 @@ impl Device {
     }
 
     fn fd(&self) -> Result<BorrowedFd<'_>, DriveError> {
-        self.file.as_ref().map(File::as_fd).ok_or_else(|| DriveError::Failed("the device is closed".into()))
+        self.file
+            .as_ref()
+            .map(File::as_fd)
+            .ok_or_else(|| DriveError::Failed("the device is closed".into()))
     }
 
     /// Resets the device where it can be reset, switches its memory accesses on, bus mastering and interrupts off, and maps BAR0.
     pub fn start(&mut self, address: &str) -> Result<Bar, DriveError> {
-        let about = why(self.kernel.device_info(self.fd()?), || "the device does not answer as VFIO".into())?;
+        let about = why(self.kernel.device_info(self.fd()?), || {
+            "the device does not answer as VFIO".into()
+        })?;
         if about.flags & DEVICE_PCI == 0 || about.regions <= REGION_CONFIG {
             return unusable(format!("{address} is no PCI device"));
         }
@@ -151,7 +181,10 @@ impl Device {
         }
         let config = self.region(REGION_CONFIG, "configuration space")?;
         if config.size < 64 {
-            return unusable(format!("the device's configuration space has {} bytes only", config.size));
+            return unusable(format!(
+                "the device's configuration space has {} bytes only",
+                config.size
+            ));
         }
         self.config_at = config.offset;
         self.write_command(COMMAND_MEMORY | COMMAND_SILENT, COMMAND_MASTER)?;
@@ -163,11 +196,15 @@ impl Device {
         let Some(bytes) = bytes else {
             return unusable(format!("the device's BAR0 has {} bytes", bar.size));
         };
-        why(Bar::map(self.fd()?, bar.offset, bytes), || "the device's BAR0 cannot be mapped".into())
+        why(Bar::map(self.fd()?, bar.offset, bytes), || {
+            "the device's BAR0 cannot be mapped".into()
+        })
     }
 
     fn region(&self, index: u32, what: &str) -> Result<kernel::RegionInfo, DriveError> {
-        let info = why(self.kernel.region_info(self.fd()?, index), || format!("the device does not say where its {what} is"))?;
+        let info = why(self.kernel.region_info(self.fd()?, index), || {
+            format!("the device does not say where its {what} is")
+        })?;
         if info.flags & (REGION_READ | REGION_WRITE) != REGION_READ | REGION_WRITE {
             return unusable(format!("the device's {what} cannot be read and written"));
         }
@@ -188,14 +225,17 @@ impl Device {
         self.read_config(COMMAND, &mut command)?;
         let wanted = (u16::from_le_bytes(command) | set) & !clear;
         if let Some(file) = &self.file {
-            why(file.write_all_at(&wanted.to_le_bytes(), self.config_at.saturating_add(COMMAND)), || {
-                "the command register cannot be written".into()
-            })?;
+            why(
+                file.write_all_at(&wanted.to_le_bytes(), self.config_at.saturating_add(COMMAND)),
+                || "the command register cannot be written".into(),
+            )?;
         }
         self.read_config(COMMAND, &mut command)?;
         let is = u16::from_le_bytes(command);
         if (is ^ wanted) & (set | clear) != 0 {
-            return unusable(format!("the command register is {is:#06x} after {wanted:#06x} was written"));
+            return unusable(format!(
+                "the command register is {is:#06x} after {wanted:#06x} was written"
+            ));
         }
         Ok(())
     }
@@ -227,7 +267,11 @@ impl Device {
                     piece.host, piece.bytes
                 ));
             }
-            let map = DmaMap { address: base.wrapping_add(piece.host), iova: piece.host, bytes: piece.bytes };
+            let map = DmaMap {
+                address: base.wrapping_add(piece.host),
+                iova: piece.host,
+                bytes: piece.bytes,
+            };
             // SAFETY: the piece is memory that stays, and that nobody takes for its own, as `DriveMemory` promises. The caller keeps it as long as the device.
             let mapped = unsafe {
                 match &self.mapping {
@@ -283,9 +327,13 @@ impl Drop for Device {
 fn open_container(kernel: &dyn Kernel, path: &Path) -> Result<OwnedFd, DriveError> {
     let at = path.display();
     let container = kernel.open(path).map_err(|error| {
-        DriveError::Unusable(format!("cannot open {at}: {error} (is the module vfio-pci loaded, and are you allowed to?)"))
+        DriveError::Unusable(format!(
+            "cannot open {at}: {error} (is the module vfio-pci loaded, and are you allowed to?)"
+        ))
     })?;
-    let version = why(kernel.api_version(container.as_fd()), || format!("{at} does not answer as VFIO"))?;
+    let version = why(kernel.api_version(container.as_fd()), || {
+        format!("{at} does not answer as VFIO")
+    })?;
     if version != API_VERSION {
         return unusable(format!("{at} has version {version} of VFIO, not {API_VERSION}"));
     }
@@ -304,8 +352,12 @@ fn open_group(kernel: &dyn Kernel, paths: &Paths<'_>) -> Result<(OwnedFd, String
         ));
     };
     let path = paths.vfio(&name);
-    let group = why(kernel.open(&path), || format!("cannot open {}, the group of {address}", path.display()))?;
-    let flags = why(kernel.group_flags(group.as_fd()), || format!("{} does not answer as a group of VFIO", path.display()))?;
+    let group = why(kernel.open(&path), || {
+        format!("cannot open {}, the group of {address}", path.display())
+    })?;
+    let flags = why(kernel.group_flags(group.as_fd()), || {
+        format!("{} does not answer as a group of VFIO", path.display())
+    })?;
     if flags & GROUP_VIABLE == 0 {
         return unusable(format!("group {name} has devices that are not bound to vfio-pci"));
     }
@@ -316,17 +368,31 @@ fn open_group(kernel: &dyn Kernel, paths: &Paths<'_>) -> Result<(OwnedFd, String
 fn by_space(kernel: &dyn Kernel, node: &Path, iommufd: &Path) -> Result<(File, Mapping, Vec<Reach>), DriveError> {
     let device = why(kernel.open(node), || format!("cannot open {}", node.display()))?;
     let iommufd = why(kernel.open(iommufd), || format!("cannot open {}", iommufd.display()))?;
-    why(kernel.bind(device.as_fd(), iommufd.as_fd()), || format!("{} cannot be used by iommufd", node.display()))?;
-    let space = why(kernel.new_space(iommufd.as_fd()), || "iommufd makes no address space".into())?;
-    why(kernel.attach(device.as_fd(), space), || format!("{} cannot be given an address space", node.display()))?;
-    let ranges = why(kernel.space_ranges(iommufd.as_fd(), space), || "iommufd does not say what it can translate".into())?;
-    let ranges = ranges.into_iter().filter_map(|(first, last)| reach(first, last)).collect();
+    why(kernel.bind(device.as_fd(), iommufd.as_fd()), || {
+        format!("{} cannot be used by iommufd", node.display())
+    })?;
+    let space = why(kernel.new_space(iommufd.as_fd()), || {
+        "iommufd makes no address space".into()
+    })?;
+    why(kernel.attach(device.as_fd(), space), || {
+        format!("{} cannot be given an address space", node.display())
+    })?;
+    let ranges = why(kernel.space_ranges(iommufd.as_fd(), space), || {
+        "iommufd does not say what it can translate".into()
+    })?;
+    let ranges = ranges
+        .into_iter()
+        .filter_map(|(first, last)| reach(first, last))
+        .collect();
     Ok((File::from(device), Mapping::Space { iommufd, space }, ranges))
 }
 
 /// A range of which `last` is the last address; what lies at 2^47 or more is left out.
 fn reach(first: u64, last: u64) -> Option<Reach> {
-    (first < ADDRESS_END && last >= first).then(|| Reach { from: first, to: last.saturating_add(1).min(ADDRESS_END) })
+    (first < ADDRESS_END && last >= first).then(|| Reach {
+        from: first,
+        to: last.saturating_add(1).min(ADDRESS_END),
+    })
 }
 
 fn get<const N: usize>(bytes: &[u8], at: usize) -> Option<[u8; N]> {
@@ -344,11 +410,22 @@ fn container_ranges(kernel: &dyn Kernel, container: BorrowedFd<'_>) -> Result<Ve
     let mut head = vec![0u8; INFO_BYTES];
     why(kernel.iommu_info(container, &mut head), words)?;
     let bytes = number(&head, 0).map_or(0, |bytes| bytes as usize);
-    let bytes = if (INFO_BYTES..=INFO_MOST).contains(&bytes) { bytes } else { INFO_BYTES };
+    let bytes = if (INFO_BYTES..=INFO_MOST).contains(&bytes) {
+        bytes
+    } else {
+        INFO_BYTES
+    };
     let mut info = vec![0u8; bytes];
     why(kernel.iommu_info(container, &mut info), words)?;
     let ranges = ranges_of(&info);
-    Ok(if ranges.is_empty() { vec![Reach { from: 0, to: ADDRESS_END }] } else { ranges })
+    Ok(if ranges.is_empty() {
+        vec![Reach {
+            from: 0,
+            to: ADDRESS_END,
+        }]
+    } else {
+        ranges
+    })
 }
 
 /// The ranges in `struct vfio_iommu_type1_info` and its capabilities: offsets are those of the kernel, checked all the same.
@@ -360,7 +437,10 @@ fn ranges_of(info: &[u8]) -> Vec<Reach> {
         if at == 0 {
             break;
         }
-        let (Some(id), Some(next)) = (get(info, at).map(u16::from_ne_bytes), number(info, at.saturating_add(4))) else {
+        let (Some(id), Some(next)) = (
+            get(info, at).map(u16::from_ne_bytes),
+            number(info, at.saturating_add(4)),
+        ) else {
             break;
         };
         if id == CAPABILITY_RANGES {

@@ -7,7 +7,9 @@ use std::os::fd::{AsRawFd, BorrowedFd, FromRawFd, OwnedFd};
 use std::path::Path;
 
 use libc::{c_int, c_ulong};
-use vmm_sys_util::ioctl::{ioctl, ioctl_with_mut_ptr, ioctl_with_mut_ref, ioctl_with_ptr, ioctl_with_ref, ioctl_with_val};
+use vmm_sys_util::ioctl::{
+    ioctl, ioctl_with_mut_ptr, ioctl_with_mut_ref, ioctl_with_ptr, ioctl_with_ref, ioctl_with_val,
+};
 
 /// The version of VFIO that is spoken.
 pub const API_VERSION: i32 = 0;
@@ -300,7 +302,10 @@ impl Kernel for Linux {
     }
 
     fn group_flags(&self, group: BorrowedFd<'_>) -> io::Result<u32> {
-        let mut status = GroupStatus { argsz: size::<GroupStatus>(), flags: 0 };
+        let mut status = GroupStatus {
+            argsz: size::<GroupStatus>(),
+            flags: 0,
+        };
         // SAFETY: the argument is the structure of this request, with its length.
         good(unsafe { ioctl_with_mut_ref(&group, request(103), &mut status) })?;
         Ok(status.flags)
@@ -330,27 +335,47 @@ impl Kernel for Linux {
     }
 
     unsafe fn map(&self, container: BorrowedFd<'_>, map: &DmaMap) -> io::Result<()> {
-        let DmaMap { address: vaddr, iova, bytes: size_of_it } = *map;
-        let map = Type1Map { argsz: size::<Type1Map>(), flags: DMA_READ_WRITE, vaddr, iova, size: size_of_it };
+        let DmaMap {
+            address: vaddr,
+            iova,
+            bytes: size_of_it,
+        } = *map;
+        let map = Type1Map {
+            argsz: size::<Type1Map>(),
+            flags: DMA_READ_WRITE,
+            vaddr,
+            iova,
+            size: size_of_it,
+        };
         // SAFETY: the argument is the structure of this request, with its length; the memory is as the caller says.
         good(unsafe { ioctl_with_ref(&container, request(113), &map) }).map(drop)
     }
 
     fn bind(&self, device: BorrowedFd<'_>, iommufd: BorrowedFd<'_>) -> io::Result<()> {
-        let mut bind =
-            BindIommufd { argsz: size::<BindIommufd>(), iommufd: iommufd.as_raw_fd(), ..BindIommufd::default() };
+        let mut bind = BindIommufd {
+            argsz: size::<BindIommufd>(),
+            iommufd: iommufd.as_raw_fd(),
+            ..BindIommufd::default()
+        };
         // SAFETY: the argument is the structure of this request, with its length.
         good(unsafe { ioctl_with_mut_ref(&device, request(118), &mut bind) }).map(drop)
     }
 
     fn attach(&self, device: BorrowedFd<'_>, space: u32) -> io::Result<()> {
-        let mut attach = AttachSpace { argsz: size::<AttachSpace>(), flags: 0, pt_id: space };
+        let mut attach = AttachSpace {
+            argsz: size::<AttachSpace>(),
+            flags: 0,
+            pt_id: space,
+        };
         // SAFETY: the argument is the structure of this request, with its length.
         good(unsafe { ioctl_with_mut_ref(&device, request(119), &mut attach) }).map(drop)
     }
 
     fn new_space(&self, iommufd: BorrowedFd<'_>) -> io::Result<u32> {
-        let mut new = NewSpace { size: size::<NewSpace>(), ..NewSpace::default() };
+        let mut new = NewSpace {
+            size: size::<NewSpace>(),
+            ..NewSpace::default()
+        };
         // SAFETY: the argument is the structure of this request, with its length.
         good(unsafe { ioctl_with_mut_ref(&iommufd, request(0x81), &mut new) })?;
         Ok(new.out_ioas_id)
@@ -371,7 +396,11 @@ impl Kernel for Linux {
             Err(why) if why.raw_os_error() != Some(libc::EMSGSIZE) => return Err(why),
             _ => {} // with EMSGSIZE there are more ranges than were asked for
         }
-        Ok(ranges.iter().take(ask.num_iovas as usize).map(|range| (range.start, range.last)).collect())
+        Ok(ranges
+            .iter()
+            .take(ask.num_iovas as usize)
+            .map(|range| (range.start, range.last))
+            .collect())
     }
 
     unsafe fn map_into(&self, iommufd: BorrowedFd<'_>, space: u32, map: &DmaMap) -> io::Result<()> {
@@ -389,24 +418,46 @@ impl Kernel for Linux {
     }
 
     fn device_info(&self, device: BorrowedFd<'_>) -> io::Result<DeviceInfo> {
-        let mut info = RawDeviceInfo { argsz: size::<RawDeviceInfo>(), ..RawDeviceInfo::default() };
+        let mut info = RawDeviceInfo {
+            argsz: size::<RawDeviceInfo>(),
+            ..RawDeviceInfo::default()
+        };
         // SAFETY: the argument is the structure of this request, with its length.
         good(unsafe { ioctl_with_mut_ref(&device, request(107), &mut info) })?;
-        Ok(DeviceInfo { flags: info.flags, regions: info.num_regions, interrupts: info.num_irqs })
+        Ok(DeviceInfo {
+            flags: info.flags,
+            regions: info.num_regions,
+            interrupts: info.num_irqs,
+        })
     }
 
     fn region_info(&self, device: BorrowedFd<'_>, index: u32) -> io::Result<RegionInfo> {
-        let mut info = RawRegionInfo { argsz: size::<RawRegionInfo>(), index, ..RawRegionInfo::default() };
+        let mut info = RawRegionInfo {
+            argsz: size::<RawRegionInfo>(),
+            index,
+            ..RawRegionInfo::default()
+        };
         // SAFETY: the argument is the structure of this request, with its length.
         good(unsafe { ioctl_with_mut_ref(&device, request(108), &mut info) })?;
-        Ok(RegionInfo { flags: info.flags, size: info.size, offset: info.offset })
+        Ok(RegionInfo {
+            flags: info.flags,
+            size: info.size,
+            offset: info.offset,
+        })
     }
 
     fn irq_info(&self, device: BorrowedFd<'_>, index: u32) -> io::Result<IrqInfo> {
-        let mut info = RawIrqInfo { argsz: size::<RawIrqInfo>(), index, ..RawIrqInfo::default() };
+        let mut info = RawIrqInfo {
+            argsz: size::<RawIrqInfo>(),
+            index,
+            ..RawIrqInfo::default()
+        };
         // SAFETY: the argument is the structure of this request, with its length.
         good(unsafe { ioctl_with_mut_ref(&device, request(109), &mut info) })?;
-        Ok(IrqInfo { flags: info.flags, count: info.count })
+        Ok(IrqInfo {
+            flags: info.flags,
+            count: info.count,
+        })
     }
 
     fn set_irq(&self, device: BorrowedFd<'_>, index: u32, event: Option<BorrowedFd<'_>>) -> io::Result<()> {

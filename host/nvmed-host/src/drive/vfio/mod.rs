@@ -60,17 +60,30 @@ impl VfioDrive {
         let bar = device.start(address)?;
         let class = device.class()?;
         if class != CLASS_NVME {
-            return Err(DriveError::Unusable(format!("{address} is no NVMe controller: its class is {class:#08x}")));
+            return Err(DriveError::Unusable(format!(
+                "{address} is no NVMe controller: its class is {class:#08x}"
+            )));
         }
         // It gets memory only now that it is known what it is, and bus mastering only after its memory.
         device.map(&*memory)?;
         let wake = device.interrupt(IRQ_MSIX);
         let (failed, wanted) = (device.interrupt(IRQ_ERROR), device.interrupt(IRQ_REQUEST));
         device.set_master(true)?;
-        let needs = Needs { interrupts: wake.is_some(), ..needs };
+        let needs = Needs {
+            interrupts: wake.is_some(),
+            ..needs
+        };
         let mut controller = Controller::new(bar, memory.clone(), needs);
         controller.open()?;
-        Ok(Self { device, controller, address: address.to_owned(), wake, failed, wanted, _memory: memory })
+        Ok(Self {
+            device,
+            controller,
+            address: address.to_owned(),
+            wake,
+            failed,
+            wanted,
+            _memory: memory,
+        })
     }
 
     /// Host addresses where pieces of the window may lie for that controller, in ascending order. It opens the device for a moment.
@@ -127,17 +140,24 @@ impl Drive for VfioDrive {
     fn check(&mut self) -> Result<(), DriveError> {
         let address = &self.address;
         if was_signalled(self.failed.as_ref()) {
-            return Err(DriveError::Failed(format!("the kernel reports an error of {address} that it cannot correct")));
+            return Err(DriveError::Failed(format!(
+                "the kernel reports an error of {address} that it cannot correct"
+            )));
         }
         if was_signalled(self.wanted.as_ref()) {
-            return Err(DriveError::Failed(format!("the kernel wants {address} back: it is unbound or pulled out")));
+            return Err(DriveError::Failed(format!(
+                "the kernel wants {address} back: it is unbound or pulled out"
+            )));
         }
         self.controller.check()
     }
 
     /// While a reset goes on the drive is to be polled.
     fn wake(&self) -> Option<BorrowedFd<'_>> {
-        self.wake.as_ref().filter(|_| !self.controller.is_recovering()).map(AsFd::as_fd)
+        self.wake
+            .as_ref()
+            .filter(|_| !self.controller.is_recovering())
+            .map(AsFd::as_fd)
     }
 
     fn woken(&mut self) {
@@ -156,7 +176,11 @@ impl Drive for VfioDrive {
     fn close(mut self: Box<Self>) -> Result<(), DriveError> {
         let closed = self.controller.close();
         let stopped = self.device.set_master(false);
-        for (event, index) in [(&self.wake, IRQ_MSIX), (&self.failed, IRQ_ERROR), (&self.wanted, IRQ_REQUEST)] {
+        for (event, index) in [
+            (&self.wake, IRQ_MSIX),
+            (&self.failed, IRQ_ERROR),
+            (&self.wanted, IRQ_REQUEST),
+        ] {
             if event.is_some() {
                 self.device.no_interrupt(index);
             }

@@ -28,9 +28,21 @@ const BAR_AT: u64 = 0x1_0000;
 const BAR_BYTES: u32 = 0x4000;
 const FROM: u64 = 0x1_0000;
 const MEMORY: u64 = 1 << 20;
-const NEEDS: Needs = Needs { admin: FROM, blocks: 4096, lanes: 1, interrupts: false };
-const BUDGET: Budget = Budget { commands: 64, bytes: 1 << 20 };
-const LANE: LaneRings = LaneRings { submission: 0x8_0000, completion: 0x8_2000, entries: 65 };
+const NEEDS: Needs = Needs {
+    admin: FROM,
+    blocks: 4096,
+    lanes: 1,
+    interrupts: false,
+};
+const BUDGET: Budget = Budget {
+    commands: 64,
+    bytes: 1 << 20,
+};
+const LANE: LaneRings = LaneRings {
+    submission: 0x8_0000,
+    completion: 0x8_2000,
+    entries: 65,
+};
 
 /// What kernel and device do.
 struct State {
@@ -104,12 +116,26 @@ impl Bench {
             fs::write(root.join("dev/vfio").join(name), []).unwrap();
         }
         symlink("../../../drivers/vfio-pci", device_folder(&root).join("driver")).unwrap();
-        symlink("../../../kernel/iommu_groups/7", device_folder(&root).join("iommu_group")).unwrap();
-        let pieces = vec![Piece { host: FROM, bytes: 0x4_0000 }, Piece { host: 0x8_0000, bytes: 0x8_0000 }];
+        symlink(
+            "../../../kernel/iommu_groups/7",
+            device_folder(&root).join("iommu_group"),
+        )
+        .unwrap();
+        let pieces = vec![
+            Piece {
+                host: FROM,
+                bytes: 0x4_0000,
+            },
+            Piece {
+                host: 0x8_0000,
+                bytes: 0x8_0000,
+            },
+        ];
         let memory = TestMemory::with(MEMORY, pieces);
         let file = File::from(memfd_create(c"device", MemFdCreateFlag::MFD_CLOEXEC).unwrap());
         file.set_len(BAR_AT + u64::from(BAR_BYTES)).unwrap();
-        file.write_all_at(&[0x36, 0x1b, 0x10, 0, 7, 0, 0, 0, 2, 2, 8, 1], CONFIG_AT).unwrap();
+        file.write_all_at(&[0x36, 0x1b, 0x10, 0, 7, 0, 0, 0, 2, 2, 8, 1], CONFIG_AT)
+            .unwrap();
         let mut state = State {
             fail: None,
             passes: 0,
@@ -131,7 +157,12 @@ impl Bench {
             violations: 0,
         };
         change(&mut state);
-        let bench = Self { root, memory, file: Arc::new(file), state: Arc::new(Mutex::new(state)) };
+        let bench = Self {
+            root,
+            memory,
+            file: Arc::new(file),
+            state: Arc::new(Mutex::new(state)),
+        };
         let fake = bench.fake();
         bench.file.write_all_at(&fake.cap.to_le_bytes(), BAR_AT).unwrap();
         bench.file.write_all_at(&fake.vs.to_le_bytes(), BAR_AT + 8).unwrap();
@@ -159,7 +190,10 @@ impl Bench {
     }
 
     fn kernel(&self) -> Box<dyn Kernel> {
-        Box::new(FakeKernel { file: self.file.clone(), state: self.state.clone() })
+        Box::new(FakeKernel {
+            file: self.file.clone(),
+            state: self.state.clone(),
+        })
     }
 
     fn open(&self) -> Result<Box<VfioDrive>, DriveError> {
@@ -184,7 +218,13 @@ impl Bench {
 
     fn signal(&self, index: u32) {
         let state = self.state();
-        let event = state.events.iter().rev().find(|e| e.0 == index).and_then(|e| e.1.as_ref()).unwrap();
+        let event = state
+            .events
+            .iter()
+            .rev()
+            .find(|e| e.0 == index)
+            .and_then(|e| e.1.as_ref())
+            .unwrap();
         nix::unistd::write(event, &1u64.to_ne_bytes()).unwrap();
     }
 
@@ -196,7 +236,13 @@ impl Bench {
         let thread = std::thread::spawn(move || {
             let mut tails = [0u32; 2];
             while !stopped.load(Ordering::Acquire) {
-                for at in [property::AQA, property::ASQ, property::ASQ + 4, property::ACQ, property::ACQ + 4] {
+                for at in [
+                    property::AQA,
+                    property::ASQ,
+                    property::ASQ + 4,
+                    property::ACQ,
+                    property::ACQ + 4,
+                ] {
                     fake.write(at, bar.read(at).unwrap());
                 }
                 let cc = bar.read(property::CC).unwrap();
@@ -273,11 +319,13 @@ impl FakeKernel {
 
 impl Kernel for FakeKernel {
     fn api_version(&self, container: BorrowedFd<'_>) -> io::Result<i32> {
-        self.asked("version", is_of(container, "/dev/vfio/vfio")).map(|s| s.version)
+        self.asked("version", is_of(container, "/dev/vfio/vfio"))
+            .map(|s| s.version)
     }
 
     fn has_extension(&self, container: BorrowedFd<'_>, extension: u32) -> io::Result<bool> {
-        self.asked("extension", is_of(container, "/dev/vfio/vfio") && extension == TYPE1V2).map(|s| s.extension)
+        self.asked("extension", is_of(container, "/dev/vfio/vfio") && extension == TYPE1V2)
+            .map(|s| s.extension)
     }
 
     fn group_flags(&self, group: BorrowedFd<'_>) -> io::Result<u32> {
@@ -285,17 +333,25 @@ impl Kernel for FakeKernel {
     }
 
     fn set_container(&self, group: BorrowedFd<'_>, container: BorrowedFd<'_>) -> io::Result<()> {
-        self.asked("container", is_of(group, "/dev/vfio/7") && is_of(container, "/dev/vfio/vfio")).map(drop)
+        self.asked(
+            "container",
+            is_of(group, "/dev/vfio/7") && is_of(container, "/dev/vfio/vfio"),
+        )
+        .map(drop)
     }
 
     fn set_iommu(&self, container: BorrowedFd<'_>, kind: u32) -> io::Result<()> {
-        self.asked("iommu", is_of(container, "/dev/vfio/vfio") && kind == TYPE1V2).map(drop)
+        self.asked("iommu", is_of(container, "/dev/vfio/vfio") && kind == TYPE1V2)
+            .map(drop)
     }
 
     fn iommu_info(&self, container: BorrowedFd<'_>, info: &mut [u8]) -> io::Result<()> {
         let state = self.asked("info", is_of(container, "/dev/vfio/vfio"))?;
         let count = state.ranges.len() as u32;
-        let mut all = state.info.clone().unwrap_or_else(|| info_of(&state.ranges, count, CAPABILITY_RANGES, 0, 24));
+        let mut all = state
+            .info
+            .clone()
+            .unwrap_or_else(|| info_of(&state.ranges, count, CAPABILITY_RANGES, 0, 24));
         let length = state.argsz.unwrap_or(all.len() as u32);
         all[..4].copy_from_slice(&length.to_ne_bytes());
         if info.len() < all.len() {
@@ -318,7 +374,8 @@ impl Kernel for FakeKernel {
     }
 
     fn bind(&self, device: BorrowedFd<'_>, iommufd: BorrowedFd<'_>) -> io::Result<()> {
-        self.asked("bind", is_of(device, "memfd:device") && is_of(iommufd, "/dev/iommu")).map(drop)
+        self.asked("bind", is_of(device, "memfd:device") && is_of(iommufd, "/dev/iommu"))
+            .map(drop)
     }
 
     fn new_space(&self, iommufd: BorrowedFd<'_>) -> io::Result<u32> {
@@ -326,11 +383,13 @@ impl Kernel for FakeKernel {
     }
 
     fn attach(&self, device: BorrowedFd<'_>, space: u32) -> io::Result<()> {
-        self.asked("attach", is_of(device, "memfd:device") && space == 5).map(drop)
+        self.asked("attach", is_of(device, "memfd:device") && space == 5)
+            .map(drop)
     }
 
     fn space_ranges(&self, iommufd: BorrowedFd<'_>, space: u32) -> io::Result<Vec<(u64, u64)>> {
-        self.asked("ranges", is_of(iommufd, "/dev/iommu") && space == 5).map(|s| s.ranges.clone())
+        self.asked("ranges", is_of(iommufd, "/dev/iommu") && space == 5)
+            .map(|s| s.ranges.clone())
     }
 
     unsafe fn map_into(&self, iommufd: BorrowedFd<'_>, space: u32, map: &DmaMap) -> io::Result<()> {
@@ -341,25 +400,42 @@ impl Kernel for FakeKernel {
 
     fn device_info(&self, device: BorrowedFd<'_>) -> io::Result<DeviceInfo> {
         let state = self.asked("device info", is_of(device, "memfd:device"))?;
-        Ok(DeviceInfo { flags: state.device_flags, regions: state.regions, interrupts: 5 })
+        Ok(DeviceInfo {
+            flags: state.device_flags,
+            regions: state.regions,
+            interrupts: 5,
+        })
     }
 
     fn region_info(&self, device: BorrowedFd<'_>, index: u32) -> io::Result<RegionInfo> {
         let state = self.asked("region", is_of(device, "memfd:device"))?;
         Ok(match index {
-            REGION_BAR0 => RegionInfo { flags: state.bar_flags, size: state.bar_bytes, offset: BAR_AT },
-            _ => RegionInfo { flags: 3, size: state.config_bytes, offset: CONFIG_AT },
+            REGION_BAR0 => RegionInfo {
+                flags: state.bar_flags,
+                size: state.bar_bytes,
+                offset: BAR_AT,
+            },
+            _ => RegionInfo {
+                flags: 3,
+                size: state.config_bytes,
+                offset: CONFIG_AT,
+            },
         })
     }
 
     fn irq_info(&self, device: BorrowedFd<'_>, index: u32) -> io::Result<IrqInfo> {
         let state = self.asked("irq", is_of(device, "memfd:device"))?;
-        Ok(IrqInfo { flags: IRQ_EVENTFD, count: if index == IRQ_MSIX { state.msix } else { 1 } })
+        Ok(IrqInfo {
+            flags: IRQ_EVENTFD,
+            count: if index == IRQ_MSIX { state.msix } else { 1 },
+        })
     }
 
     fn set_irq(&self, device: BorrowedFd<'_>, index: u32, event: Option<BorrowedFd<'_>>) -> io::Result<()> {
         let mut state = self.asked("set irq", is_of(device, "memfd:device"))?;
-        state.events.push((index, event.map(|event| event.try_clone_to_owned().unwrap())));
+        state
+            .events
+            .push((index, event.map(|event| event.try_clone_to_owned().unwrap())));
         Ok(())
     }
 
@@ -384,13 +460,30 @@ fn a_good_device_is_opened_used_and_closed() {
         let bench = if node { bench.with_node() } else { bench };
         let player = bench.play();
         let mut drive = bench.open().unwrap();
-        assert!(drive.describe().starts_with("0000:01:00.0: A fake controller, serial SN 1"), "{}", drive.describe());
+        assert!(
+            drive
+                .describe()
+                .starts_with("0000:01:00.0: A fake controller, serial SN 1"),
+            "{}",
+            drive.describe()
+        );
         let base = bench.memory.base() as u64;
-        let map = |iova, bytes| DmaMap { address: base + iova, iova, bytes };
+        let map = |iova, bytes| DmaMap {
+            address: base + iova,
+            iova,
+            bytes,
+        };
         {
             let state = bench.state();
             assert_eq!(state.maps, [map(FROM, 0x4_0000), map(0x8_0000, 0x8_0000)]);
-            assert_eq!((state.violations, state.asked.contains(&"bind"), state.asked.contains(&"container")), (0, node, !node));
+            assert_eq!(
+                (
+                    state.violations,
+                    state.asked.contains(&"bind"),
+                    state.asked.contains(&"container")
+                ),
+                (0, node, !node)
+            );
             let indexes: Vec<u32> = state.events.iter().map(|e| e.0).collect();
             assert_eq!(indexes, [IRQ_MSIX, IRQ_ERROR, IRQ_REQUEST]);
         }
@@ -407,12 +500,18 @@ fn a_good_device_is_opened_used_and_closed() {
         assert_eq!(bench.bar(0x100c), 5);
         assert!(drive.ring_submission(1, 0).is_err());
         // interrupts
-        let mut polled = [nix::poll::PollFd::new(drive.wake().unwrap(), nix::poll::PollFlags::POLLIN)];
+        let mut polled = [nix::poll::PollFd::new(
+            drive.wake().unwrap(),
+            nix::poll::PollFlags::POLLIN,
+        )];
         assert_eq!(nix::poll::poll(&mut polled, 0u8).unwrap(), 0);
         bench.signal(IRQ_MSIX);
         assert_eq!(nix::poll::poll(&mut polled, 0u8).unwrap(), 1);
         drive.woken();
-        let mut polled = [nix::poll::PollFd::new(drive.wake().unwrap(), nix::poll::PollFlags::POLLIN)];
+        let mut polled = [nix::poll::PollFd::new(
+            drive.wake().unwrap(),
+            nix::poll::PollFlags::POLLIN,
+        )];
         assert_eq!(nix::poll::poll(&mut polled, 0u8).unwrap(), 0);
         drive.close().unwrap();
         assert_eq!(bench.command(), 0x403);
@@ -447,9 +546,13 @@ fn a_reset_is_polled() {
 
 #[test]
 fn without_message_interrupts_it_is_polled() {
-    for change in [(|s: &mut State| s.msix = 0) as fn(&mut State), |s| s.fail = Some(("set irq", libc::EINVAL)), |s| {
-        s.fail = Some(("irq", libc::EINVAL));
-    }] {
+    for change in [
+        (|s: &mut State| s.msix = 0) as fn(&mut State),
+        |s| s.fail = Some(("set irq", libc::EINVAL)),
+        |s| {
+            s.fail = Some(("irq", libc::EINVAL));
+        },
+    ] {
         let bench = Bench::new(change);
         let player = bench.play();
         let mut drive = bench.open().unwrap();
@@ -462,7 +565,10 @@ fn without_message_interrupts_it_is_polled() {
 
 #[test]
 fn a_device_that_fails_or_is_wanted_back_ends_the_drive() {
-    for (index, part) in [(IRQ_ERROR, "an error of 0000:01:00.0 that it cannot correct"), (IRQ_REQUEST, "wants 0000:01:00.0 back")] {
+    for (index, part) in [
+        (IRQ_ERROR, "an error of 0000:01:00.0 that it cannot correct"),
+        (IRQ_REQUEST, "wants 0000:01:00.0 back"),
+    ] {
         let bench = Bench::new(|_| {});
         let player = bench.play();
         let mut drive = bench.open().unwrap();
@@ -477,7 +583,10 @@ fn a_device_that_fails_or_is_wanted_back_ends_the_drive() {
     let player = bench.play();
     let drive = bench.open().unwrap();
     player.end();
-    bench.file.write_all_at(&[0xff; 4], BAR_AT + u64::from(property::CSTS)).unwrap();
+    bench
+        .file
+        .write_all_at(&[0xff; 4], BAR_AT + u64::from(property::CSTS))
+        .unwrap();
     assert!(drive.close().unwrap_err().to_string().contains("is gone"));
     assert_eq!(bench.command(), 0x403);
 }
@@ -502,15 +611,36 @@ fn paths_are_checked() {
         symlink(target, device_folder(&bench.root).join(name)).unwrap();
         bench
     };
-    refused(&at("dev/vfio/vfio"), "dev/vfio/vfio: No such file or directory (os error 2) (is the module vfio-pci loaded");
-    refused(&at("dev/vfio/7"), "dev/vfio/7, the group of 0000:01:00.0: No such file or directory");
-    refused(&at(&format!("{device}/driver")), "0000:01:00.0 has no driver: bind it to vfio-pci");
-    refused(&link("driver", "../nvme"), "0000:01:00.0 has the driver nvme: bind it to vfio-pci");
+    refused(
+        &at("dev/vfio/vfio"),
+        "dev/vfio/vfio: No such file or directory (os error 2) (is the module vfio-pci loaded",
+    );
+    refused(
+        &at("dev/vfio/7"),
+        "dev/vfio/7, the group of 0000:01:00.0: No such file or directory",
+    );
+    refused(
+        &at(&format!("{device}/driver")),
+        "0000:01:00.0 has no driver: bind it to vfio-pci",
+    );
+    refused(
+        &link("driver", "../nvme"),
+        "0000:01:00.0 has the driver nvme: bind it to vfio-pci",
+    );
     refused(&at(&format!("{device}/iommu_group")), "is in no group of an I/O MMU");
     refused(&link("iommu_group", ".."), "is in no group of an I/O MMU");
     let bench = Bench::new(|_| {});
-    for address in ["0000:02:00.0", "", "/", "../0000:01:00", "0000:01:00.0/driver", "0000:01..00.0"] {
-        let said = VfioDrive::reaches_under(bench.kernel(), &bench.root, address).unwrap_err().to_string();
+    for address in [
+        "0000:02:00.0",
+        "",
+        "/",
+        "../0000:01:00",
+        "0000:01:00.0/driver",
+        "0000:01..00.0",
+    ] {
+        let said = VfioDrive::reaches_under(bench.kernel(), &bench.root, address)
+            .unwrap_err()
+            .to_string();
         assert!(said.contains("there is no PCI device"), "{said}");
     }
     assert!(VfioDrive::reaches("ffff:ff:1f.7").is_err());
@@ -530,15 +660,24 @@ fn each_step_is_checked() {
         ("device info", "the device does not answer as VFIO"),
         ("reset", "0000:01:00.0 cannot be reset"),
         ("region", "the device does not say where its configuration space is"),
-        ("map", "0x40000 bytes cannot be mapped for the device at 0x10000: Inappropriate ioctl"),
+        (
+            "map",
+            "0x40000 bytes cannot be mapped for the device at 0x10000: Inappropriate ioctl",
+        ),
     ];
     for (step, part) in steps {
         refused(&Bench::new(|s| s.fail = Some((step, libc::ENOTTY))), part);
     }
     let bad = |part: &str, change: fn(&mut State)| refused(&Bench::new(change), part);
-    bad("is the limit of locked memory, ulimit -l, large enough?", |s| s.fail = Some(("map", libc::ENOMEM)));
-    bad("does not say what it can do: Invalid argument", |s| (s.fail, s.passes) = (Some(("info", libc::EINVAL)), 1));
-    bad("does not say where its BAR0 is", |s| (s.fail, s.passes) = (Some(("region", libc::EINVAL)), 1));
+    bad("is the limit of locked memory, ulimit -l, large enough?", |s| {
+        s.fail = Some(("map", libc::ENOMEM))
+    });
+    bad("does not say what it can do: Invalid argument", |s| {
+        (s.fail, s.passes) = (Some(("info", libc::EINVAL)), 1)
+    });
+    bad("does not say where its BAR0 is", |s| {
+        (s.fail, s.passes) = (Some(("region", libc::EINVAL)), 1)
+    });
     bad("has version 1 of VFIO, not 0", |s| s.version = 1);
     bad("has no I/O MMU of type 1 version 2", |s| s.extension = false);
     bad("group 7 has devices that are not bound to vfio-pci", |s| s.viable = 0);
@@ -547,13 +686,21 @@ fn each_step_is_checked() {
     bad("BAR0 cannot be mapped", |s| s.bar_flags = 3);
     bad("BAR0 cannot be read and written", |s| s.bar_flags = 5);
     bad("BAR0 cannot be read and written", |s| s.bar_flags = 6);
-    bad("the device's configuration space has 63 bytes only", |s| s.config_bytes = 63);
+    bad("the device's configuration space has 63 bytes only", |s| {
+        s.config_bytes = 63
+    });
     bad("the device's BAR0 has 4095 bytes", |s| s.bar_bytes = 4095);
     bad("the device's BAR0 has 0 bytes", |s| s.bar_bytes = 0);
     bad("the device's BAR0 has 4294967296 bytes", |s| s.bar_bytes = 1 << 32);
-    bad("cannot translate all of 0x80000 and 0x80000 bytes", |s| s.ranges = vec![(0, 0x4_ffff), (0x8_0001, u64::MAX)]);
-    bad("cannot translate all of 0x10000 and 0x40000 bytes", |s| s.ranges = vec![(0x1_1000, u64::MAX)]);
-    bad("cannot translate all of 0x10000 and 0x40000 bytes", |s| s.ranges = vec![(0, 0x4_fffe), (0x8_0000, u64::MAX)]);
+    bad("cannot translate all of 0x80000 and 0x80000 bytes", |s| {
+        s.ranges = vec![(0, 0x4_ffff), (0x8_0001, u64::MAX)]
+    });
+    bad("cannot translate all of 0x10000 and 0x40000 bytes", |s| {
+        s.ranges = vec![(0x1_1000, u64::MAX)]
+    });
+    bad("cannot translate all of 0x10000 and 0x40000 bytes", |s| {
+        s.ranges = vec![(0, 0x4_fffe), (0x8_0000, u64::MAX)]
+    });
     let bench = Bench::new(|_| {});
     bench.file.write_all_at(&[2, 6, 1], CONFIG_AT + 9).unwrap();
     refused(&bench, "is no NVMe controller: its class is 0x010602");
@@ -563,7 +710,10 @@ fn each_step_is_checked() {
     refused(&bench, "there is no controller");
     assert!(!bench.state().asked.contains(&"reset"));
     // a command register that does not do what it is told: a file that is appended to plays it
-    for (command, part) in [(0x400u16, "is 0x0400 after 0x0402 was written"), (0x406, "is 0x0406 after 0x0402 was written")] {
+    for (command, part) in [
+        (0x400u16, "is 0x0400 after 0x0402 was written"),
+        (0x406, "is 0x0406 after 0x0402 was written"),
+    ] {
         let bench = Bench::new(|_| {});
         bench.file.write_all_at(&command.to_le_bytes(), CONFIG_AT + 4).unwrap();
         use std::os::fd::AsRawFd;
@@ -581,7 +731,10 @@ fn where_iommufd_cannot_be_used_the_group_is() {
         assert!(bench.state().asked.contains(&"container"));
         assert_eq!(Arc::strong_count(&bench.file), 1);
     }
-    refused(&Bench::new(|s| s.fail = Some(("map into", libc::EINVAL))).with_node(), "cannot be mapped for the device at 0x10000");
+    refused(
+        &Bench::new(|s| s.fail = Some(("map into", libc::EINVAL))).with_node(),
+        "cannot be mapped for the device at 0x10000",
+    );
     // without a node, without /dev/iommu
     for missing in ["dev/vfio/devices/vfio3", "dev/iommu"] {
         let bench = Bench::new(|_| {}).with_node();
@@ -593,18 +746,42 @@ fn where_iommufd_cannot_be_used_the_group_is() {
 
 #[test]
 fn ranges_are_checked() {
-    let all = [Reach { from: 0, to: ADDRESS_END }];
-    let two = [Reach { from: 0, to: 0xfee0_0000 }, Reach { from: 0xfef0_0000, to: ADDRESS_END }];
+    let all = [Reach {
+        from: 0,
+        to: ADDRESS_END,
+    }];
+    let two = [
+        Reach {
+            from: 0,
+            to: 0xfee0_0000,
+        },
+        Reach {
+            from: 0xfef0_0000,
+            to: ADDRESS_END,
+        },
+    ];
     assert_eq!(Bench::new(|_| {}).reaches(), two);
     assert_eq!(Bench::new(|_| {}).with_node().reaches(), two);
     assert_eq!(Bench::new(|s| s.ranges.clear()).reaches(), all);
-    assert_eq!(Bench::new(|s| s.ranges = vec![(0x5000, 0x4000), (1, 2)]).reaches(), [Reach { from: 1, to: 3 }]);
-    assert_eq!(Bench::new(|s| s.ranges = vec![(0, 1), (ADDRESS_END, u64::MAX)]).reaches(), [Reach { from: 0, to: 2 }]);
+    assert_eq!(
+        Bench::new(|s| s.ranges = vec![(0x5000, 0x4000), (1, 2)]).reaches(),
+        [Reach { from: 1, to: 3 }]
+    );
+    assert_eq!(
+        Bench::new(|s| s.ranges = vec![(0, 1), (ADDRESS_END, u64::MAX)]).reaches(),
+        [Reach { from: 0, to: 2 }]
+    );
     let ranges = [(0u64, 0xfffu64), (0x2000, u64::MAX)];
     let with = |info: Vec<u8>, argsz: Option<u32>| Bench::new(|s| (s.info, s.argsz) = (Some(info), argsz)).reaches();
     // more ranges than there are bytes; a list of capabilities without end; another kind; places and sizes that cannot be
-    assert_eq!(with(info_of(&ranges, u32::MAX, CAPABILITY_RANGES, 0, 24), None).len(), 2);
-    assert_eq!(with(info_of(&ranges, 2, CAPABILITY_RANGES, 24, 24), None).len(), MOST_RANGES);
+    assert_eq!(
+        with(info_of(&ranges, u32::MAX, CAPABILITY_RANGES, 0, 24), None).len(),
+        2
+    );
+    assert_eq!(
+        with(info_of(&ranges, 2, CAPABILITY_RANGES, 24, 24), None).len(),
+        MOST_RANGES
+    );
     assert_eq!(with(info_of(&ranges, 2, 3, 0, 24), None), all);
     for at in [60, 71, 72, u32::MAX] {
         assert_eq!(with(info_of(&ranges, 2, CAPABILITY_RANGES, 0, at), None), all);
@@ -644,7 +821,11 @@ fn random_ranges() {
 fn the_real_kernel_refuses_other_files() {
     let file = File::open("/dev/null").unwrap();
     let fd = file.as_fd();
-    let map = DmaMap { address: 0, iova: 0, bytes: 0 };
+    let map = DmaMap {
+        address: 0,
+        iova: 0,
+        bytes: 0,
+    };
     assert!(Linux.api_version(fd).is_err() && Linux.has_extension(fd, TYPE1V2).is_err());
     assert!(Linux.set_iommu(fd, TYPE1V2).is_err() && Linux.group_flags(fd).is_err());
     assert!(Linux.set_container(fd, fd).is_err() && Linux.device(fd, c"0000:00:00.0").is_err());
