@@ -16,10 +16,12 @@ use nvmed::Mediator;
 use vm_memory::VolatileSlice;
 
 use crate::config::{Config, Connection, Doorbells, DriveConfig, GuestConfig, Interrupts, BLOCK};
-use crate::drive::nvme::{DriveMemory, Needs};
+use crate::drive::nvme::Needs;
 use crate::drive::prp::SharedMemory;
 use crate::drive::qtest::QtestDrive;
 use crate::drive::ram::RamDrive;
+use crate::drive::reached::Reached;
+use crate::drive::vfio::VfioDrive;
 use crate::drive::{Drive, DriveError};
 use crate::guest::function::Function;
 use crate::guest::{self, Guest, Report, Reports, Source};
@@ -30,7 +32,7 @@ use crate::mediation::outbox::Outbox;
 use crate::mediation::side::Library;
 use crate::mediation::wake::Bell;
 use crate::mediation::{self, Counts, End, Mediation, Post, Stop};
-use crate::memory::{FileError, GuestFile, GuestMemory, MemoryError, Piece, Trust, Window};
+use crate::memory::{FileError, GuestFile, GuestMemory, MemoryError, Trust, Window};
 use crate::process::{Listener, ProcessError, STOP_WAIT};
 use crate::signals::Signals;
 use crate::statistics::{Owners, Statistics, ENTRY_BYTES};
@@ -133,26 +135,6 @@ pub struct Host {
 impl SharedMemory for Window {
     fn slice(&self, host: u64, len: usize) -> Option<VolatileSlice<'_>> {
         Window::slice(self, host, len)
-    }
-}
-
-/// What a real drive may reach of the window.
-struct Reached {
-    window: Arc<Window>,
-    pieces: Vec<Piece>,
-}
-
-impl DriveMemory for Reached {
-    fn slice(&self, host: u64, len: usize) -> Option<VolatileSlice<'_>> {
-        self.window.slice(host, len)
-    }
-
-    fn pieces(&self) -> Vec<Piece> {
-        self.pieces.clone()
-    }
-
-    fn base(&self) -> *mut u8 {
-        self.window.base()
     }
 }
 
@@ -378,7 +360,7 @@ fn plan(config: &Config) -> Result<Layout, HostError> {
             Ok(Layout::plan(config, Room::FirstPart(file.bytes()))?)
         }
         DriveConfig::Vfio { address } => {
-            let reaches = reaches(address).map_err(|error| drive_error(config, error))?;
+            let reaches = VfioDrive::reaches(address).map_err(|error| drive_error(config, error))?;
             Ok(Layout::plan(config, Room::Reaches(&reaches))?)
         }
     }
@@ -456,16 +438,8 @@ fn counts(config: &Config) -> Box<dyn Counts> {
     Box::new(Counted(Statistics::new(Owners::new(extents), config.guests.len())))
 }
 
-/// Where a real drive can reach memory.
-fn reaches(_address: &str) -> Result<Vec<crate::drive::Reach>, DriveError> {
-    Err(DriveError::Unusable("real drives are not there yet".to_owned()))
-}
-
 fn open_drive(config: &Config, layout: &Layout, window: &Arc<Window>) -> Result<Box<dyn Drive>, DriveError> {
-    let reached = Reached {
-        window: Arc::clone(window),
-        pieces: layout.reached(),
-    };
+    let reached = Reached::new(Arc::clone(window), layout.reached());
     let needs = Needs {
         admin: layout.admin,
         blocks: config.blocks(),
@@ -482,6 +456,6 @@ fn open_drive(config: &Config, layout: &Layout, window: &Arc<Window>) -> Result<
             })
         }
         DriveConfig::Qemu { socket, .. } => Ok(Box::new(QtestDrive::open(socket, Arc::new(reached), needs)?)),
-        DriveConfig::Vfio { .. } => Err(DriveError::Unusable("this kind of drive is not there yet".to_owned())),
+        DriveConfig::Vfio { address } => Ok(Box::new(VfioDrive::open(address, Arc::new(reached), needs)?)),
     }
 }

@@ -15,8 +15,8 @@ use client::{Client, Memory, Range, BAR0, CONFIG};
 use guest::{configuration, host, is_real, Bells, Folder, Guest, BYTES, MIB};
 use nvmed_host::host::Outcome;
 
-/// The longest read of an honest guest beside others: processors are shared with other tests.
-const LONGEST: Duration = Duration::from_millis(500);
+/// The longest read of an honest guest beside others that is no failure: the processors may be shared with much else. What it was is printed.
+const LONGEST: Duration = Duration::from_secs(2);
 
 #[test]
 fn memory_that_is_not_the_machines_is_refused() {
@@ -251,4 +251,82 @@ fn a_flood_of_doorbells() {
     println!("the longest read: {beside:?} beside {sent} doorbells");
     assert!(beside < LONGEST, "{beside:?}");
     assert_eq!(host.end(), Outcome::Good);
+}
+
+/// The longest read of guest 0 while guest 1 makes the drive work as hard as one command can.
+#[test]
+fn long_commands_of_another_guest_hold_up_nobody() {
+    if !is_real() {
+        return;
+    }
+    let folder = Folder::new("long");
+    let image = folder.path("image");
+    let text = configuration(&folder, 2, "")
+        .replace("drive ram 16M", &format!("drive ram 512M {}", image.display()))
+        .replace("extent 1 4096 2048", "extent 1 4096 1000000");
+    let host = host(&text);
+    let mut honest = Guest::connect(&folder.path("g0")).unwrap();
+    let mut other = Guest::connect(&folder.path("g1")).unwrap();
+    honest.bring_up().unwrap();
+    other.bring_up().unwrap();
+    println!("the longest read: {:?} alone", honest.longest_read(500).unwrap());
+
+    // dirty blocks, and then a Flush
+    for i in 0..32_768u32 {
+        other.put(1, 1, 0x10_0000, [8 * (i % 125_000), 0, 7]).unwrap();
+        if i % 32 == 31 {
+            other.ring(1, false).unwrap();
+            for _ in 0..32 {
+                assert_eq!(other.await_done(1).unwrap().status, 0);
+            }
+        }
+    }
+    other.put(1, 0, 0, [0; 3]).unwrap();
+    beside(&mut honest, &mut other, 1, "a Flush of 128 MiB");
+
+    // Dataset Management of 256 ranges, each the whole namespace
+    let ranges: Vec<u8> = (0..256)
+        .flat_map(|_| {
+            let mut range = [0; 16];
+            range[4..8].copy_from_slice(&1_000_000u32.to_le_bytes());
+            range
+        })
+        .collect();
+    other.memory.write(0x30_0000, &ranges).unwrap();
+    other.put(1, 9, 0x30_0000, [255, 4, 0]).unwrap();
+    beside(
+        &mut honest,
+        &mut other,
+        1,
+        "a Dataset Management of 256 whole namespaces",
+    );
+
+    // as many Write Zeroes as a queue takes
+    for i in 0..60 {
+        other.put(1, 8, 0, [15_000 * i, 0, 0xffff]).unwrap();
+    }
+    beside(&mut honest, &mut other, 60, "60 Write Zeroes of 32 MiB");
+    drop(other);
+    assert_eq!(host.end(), Outcome::Good);
+}
+
+fn beside(honest: &mut Guest, other: &mut Guest, commands: usize, what: &str) {
+    let begin = Instant::now();
+    other.ring(1, false).unwrap();
+    let mut longest = Duration::ZERO;
+    let mut done = 0;
+    while done < commands {
+        longest = longest.max(honest.longest_read(20).unwrap());
+        while let Some(it) = other.take(1).unwrap() {
+            assert_eq!(it.status, 0, "{what}");
+            done += 1;
+        }
+        other.ring(1, true).unwrap();
+        assert!(begin.elapsed() < Duration::from_secs(60), "{what}");
+    }
+    println!(
+        "the longest read: {longest:?} beside {what}, which took {:?}",
+        begin.elapsed()
+    );
+    assert!(longest < LONGEST, "{what}: {longest:?}");
 }

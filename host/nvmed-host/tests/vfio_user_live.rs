@@ -8,6 +8,7 @@
 mod client;
 mod vfio_user;
 
+use std::io::Write;
 use std::os::fd::OwnedFd;
 use std::os::unix::net::UnixListener;
 use std::path::PathBuf;
@@ -56,7 +57,9 @@ fn qemu(root: &std::path::Path, socket: &str, machine: &str) -> Qemu {
             "-device",
             &device,
         ])
-        .stdin(Stdio::null())
+        .args(["-qmp", "stdio"])
+        .stdin(Stdio::piped())
+        .stdout(Stdio::null())
         .spawn();
     Qemu(child.unwrap())
 }
@@ -76,6 +79,14 @@ fn fill_config(config: &mut [u8]) {
     }
 }
 
+/// Serves QEMU for a while.
+fn run(connection: &mut Connection, state: &mut State) {
+    let begin = Instant::now();
+    while begin.elapsed() < RUN {
+        turn(connection, state, PollTimeout::from(100u8)).unwrap();
+    }
+}
+
 #[test]
 #[ignore = "needs QEMU 10.1 or later in NVMED_QEMU_ROOT"]
 fn qemu_starts() {
@@ -90,10 +101,17 @@ fn qemu_starts() {
         fill_config(&mut state.regions[7]);
         let mut connection = Connection::new(OwnedFd::from(listener.accept().unwrap().0), device).unwrap();
         std::fs::remove_file(&path).unwrap();
-        let begin = Instant::now();
-        while begin.elapsed() < RUN {
-            turn(&mut connection, &mut state, PollTimeout::from(100u8)).unwrap();
-        }
+        run(&mut connection, &mut state);
+        let resets = state.resets;
+        let mut words = qemu.0.stdin.take().unwrap();
+        words
+            .write_all(br#"{"execute":"qmp_capabilities"}{"execute":"system_reset"}"#)
+            .unwrap();
+        run(&mut connection, &mut state);
+        assert!(
+            state.resets > resets && resets > 0,
+            "the machine was reset, and its device"
+        );
         assert_eq!(qemu.0.try_wait().unwrap(), None, "QEMU goes on");
         println!("{machine}: agreed {:?}", connection.session().agreed());
         state

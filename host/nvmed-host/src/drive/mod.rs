@@ -8,6 +8,7 @@ pub mod nvme;
 pub mod prp;
 pub mod qtest;
 pub mod ram;
+pub mod reached;
 pub mod vfio;
 
 use std::os::fd::BorrowedFd;

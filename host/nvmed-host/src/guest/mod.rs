@@ -223,8 +223,10 @@ impl Guest {
                 Ok(never) => match never {},
                 Err(lost) => lost,
             };
-            if !lost.is_end() {
-                self.lines.warn(&lost);
+            match lost {
+                Lost::Connection(ConnectionError::Closed) => self.lines.say(&lost),
+                Lost::Stop | Lost::Gone(_) => {}
+                _ => self.lines.warn(&lost),
             }
             if self.end_connection().is_err() || lost.is_end() {
                 break;

@@ -123,6 +123,8 @@ pub struct Mediation<S: Side> {
     due: bool,
     /// Of a lane more may be due.
     busy: bool,
+    /// The drive is being reset.
+    recovering: bool,
     /// When the drive was checked last.
     ticked: Instant,
     /// Faults of memory that were told.
@@ -155,6 +157,7 @@ impl<S: Side> Mediation<S> {
             pace: Pace::new(parts.spin, now),
             due: false,
             busy: false,
+            recovering: false,
             ticked: now,
             faults: crate::memory::fault::all(),
         })
@@ -192,7 +195,7 @@ impl<S: Side> Mediation<S> {
     /// Carries out what guests ask for, and what is due, for some milliseconds at most.
     fn turn(&mut self, now: Instant) {
         let stirred = self.listen();
-        let result = if stirred || self.due || self.lanes.are_flying() {
+        let result = if stirred || self.due || self.recovering || self.lanes.are_flying() {
             self.work(now)
         } else {
             Ok(false)
@@ -292,10 +295,13 @@ impl<S: Side> Mediation<S> {
             return Ok((false, false));
         };
         self.lanes.ring(drive, now)?;
-        if !self.lanes.are_flying() {
+        if !self.lanes.are_flying() && !self.recovering {
             return Ok((false, false));
         }
         let progress = drive.work(BUDGET)?;
+        if self.recovering {
+            self.recovering = drive.recover().is_some_and(|it| it.is_recovering());
+        }
         Ok((progress.completed != 0, progress.more))
     }
 
@@ -327,9 +333,14 @@ impl<S: Side> Mediation<S> {
         }
         // what there was no memory for is tried again
         self.due = true;
+        // a drive that is being reset keeps aside what its doorbells say
+        self.ring(now)?;
         let Some(drive) = self.disk.good() else { return Ok(()) };
         drive.check()?;
+        self.recovering = drive.recover().is_some_and(|it| it.is_recovering());
         match self.lanes.silent(now, SILENCE) {
+            // it has limits of its own
+            Some(_) if self.recovering => Ok(()),
             Some(lane) => Err(Failure::Silent(lane)),
             None => Ok(()),
         }
@@ -421,7 +432,7 @@ impl<S: Side> Mediation<S> {
         };
         let waiting = Waiting {
             due: self.due || self.clients.iter().any(Client::has_more),
-            polled: self.lanes.are_flying() && !wakes,
+            polled: self.recovering || self.lanes.are_flying() && !wakes,
             looked: self.clients.iter().any(Client::is_looked_at),
         };
         let pause = self.pace.longest(waiting, now);

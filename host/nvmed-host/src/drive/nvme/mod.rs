@@ -15,6 +15,7 @@ mod controller;
 mod event;
 #[cfg(test)]
 pub(crate) mod fake;
+mod found;
 pub mod identify;
 mod lane;
 pub mod memory;
@@ -23,8 +24,9 @@ mod tests;
 
 pub use access::{Access, Capabilities};
 pub use admin::{ADMIN_BYTES, ADMIN_WAIT};
-pub use controller::{Controller, Found, Needs, ABORT_AFTER, MOST_LANES, RESETS, RESET_AFTER, SHUTDOWN_WAIT, TRANSFER};
+pub use controller::{Controller, ABORT_AFTER, MOST_LANES, RESETS, RESET_AFTER, RESET_SPAN, SHUTDOWN_WAIT, TRANSFER};
 pub use event::Event;
+pub use found::{Found, Needs};
 pub use memory::DriveMemory;
 
 use super::DriveError;

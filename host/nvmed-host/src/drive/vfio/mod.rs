@@ -5,7 +5,7 @@
 
 mod bar;
 mod device;
-mod kernel;
+pub mod kernel;
 #[cfg(test)]
 mod tests;
 
@@ -19,7 +19,7 @@ use nix::sys::eventfd::EventFd;
 use self::bar::Bar;
 use self::device::Device;
 pub use self::device::ADDRESS_END;
-pub use self::kernel::{DeviceInfo, DmaMap, IrqInfo, Kernel, Linux, RegionInfo};
+pub use self::kernel::{Kernel, Linux};
 use self::kernel::{IRQ_ERROR, IRQ_MSIX, IRQ_REQUEST};
 use super::nvme::{Controller, DriveMemory, Needs, Recover};
 use super::{Budget, Drive, DriveError, LaneRings, Progress, Reach};

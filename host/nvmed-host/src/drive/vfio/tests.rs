@@ -1,6 +1,8 @@
 //! Without VFIO: the paths lie under a folder of the test, the kernel is that of this file, and the device's file is memory, in which a thread plays the
 //! controller. Each step can be made to fail.
 
+mod bench;
+
 use std::ffi::CStr;
 use std::fs::{self, File};
 use std::io;
@@ -15,6 +17,7 @@ use std::time::Instant;
 use nix::fcntl::{fcntl, FcntlArg, OFlag};
 use nix::sys::memfd::{memfd_create, MemFdCreateFlag};
 
+use self::bench::*;
 use super::kernel::*;
 use super::*;
 use crate::drive::nvme::access::property;
@@ -43,6 +46,7 @@ const LANE: LaneRings = LaneRings {
     completion: 0x8_2000,
     entries: 65,
 };
+<<<<<<< HEAD
 
 /// What kernel and device do.
 struct State {
@@ -452,6 +456,8 @@ impl Kernel for FakeKernel {
         Linux.open(path)
     }
 }
+=======
+>>>>>>> d4013aca6d706a61d08c6132f5e121a07dcd3451
 
 #[test]
 fn a_good_device_is_opened_used_and_closed() {

@@ -33,6 +33,10 @@ impl MemoryStore {
     /// Where this process has no addresses for them.
     pub fn new(bytes: u64) -> io::Result<MemoryStore> {
         let length = usize::try_from(bytes).map_err(io::Error::other)?;
+        let about = std::fs::read_to_string("/proc/meminfo").unwrap_or_default();
+        if let Some(free) = available(&about).filter(|free| *free < bytes) {
+            tracing::warn!("the drive may come to need {bytes} bytes of memory, and {free} are free: the system may end this program then");
+        }
         let region = MmapRegion::new(length).map_err(io::Error::other)?;
         let used = (0..bytes.div_ceil(CHUNK)).map(|_| AtomicU16::new(0)).collect();
         Ok(MemoryStore { region, used })
@@ -99,6 +103,17 @@ impl MemoryStore {
         }
         Ok(())
     }
+}
+
+/// Bytes of memory that the system has left, as `/proc/meminfo` says it.
+fn available(about: &str) -> Option<u64> {
+    let line = about.lines().find_map(|line| line.strip_prefix("MemAvailable:"))?;
+    line.trim()
+        .strip_suffix(" kB")?
+        .trim()
+        .parse::<u64>()
+        .ok()?
+        .checked_mul(1024)
 }
 
 /// The first byte after the chunk of `offset`.
@@ -261,7 +276,8 @@ mod tests {
             state = state.wrapping_mul(6_364_136_223_846_793_005).wrapping_add(1);
             (state >> 33) % below
         };
-        for round in 0..4000u64 {
+        let zeros = vec![0; bytes as usize];
+        for round in 0..2000u64 {
             let at = random(bytes / 512) * 512;
             let length = (random(if round % 9 == 0 { 5000 } else { 40 }) + 1).min((bytes - at) / 512) * 512;
             let range = at as usize..(at + length) as usize;
@@ -276,13 +292,28 @@ mod tests {
             }
             let from = random(bytes / 512) * 512;
             let data = store.next_data(from, bytes);
-            assert!(
-                (from..=bytes).contains(&data) && model[from as usize..data as usize].iter().all(|byte| *byte == 0)
-            );
+            assert!((from..=bytes).contains(&data));
+            let without = from as usize..data as usize;
+            assert!(model[without.clone()] == zeros[without]);
             let length = (random(60) + 1).min((bytes - from) / 512) * 512;
             assert!(content(&store, from, length as usize) == model[from as usize..(from + length) as usize]);
         }
         assert!(content(&store, 0, bytes as usize) == model);
+    }
+
+    #[test]
+    fn available_memory_is_read() {
+        let about = "MemTotal:       49326980 kB\nMemFree:        1 kB\nMemAvailable:   30118564 kB\nBuffers: 2 kB\n";
+        assert_eq!(available(about), Some(30_118_564 * 1024));
+        for bad in [
+            "",
+            "MemAvailable: x kB",
+            "MemAvailable: 5",
+            "MemAvailable: 18446744073709551615 kB",
+        ] {
+            assert_eq!(available(bad), None);
+        }
+        assert!(available(&std::fs::read_to_string("/proc/meminfo").expect("Linux")).is_some());
     }
 
     #[test]

@@ -1,10 +1,13 @@
-//! How long a command waits for others', by the clock. Bounds are generous: machines of tests are busy. `examples/ram_waits.rs` measures.
+//! How long a command waits for others', by the clock. Machines of tests are busy, so that the best of some tries counts, and the bound is generous:
+//! `examples/ram_waits.rs` measures.
 
 use super::*;
 
 /// What the finding on the old program was: one Dataset Management of 256 overlapping ranges held all others up for 22 s, 63 Write Zeroes for 0.7 s, and a
 /// Flush of 512 MiB for 0.26 s.
-const MOST: Duration = Duration::from_millis(250);
+const MOST: Duration = Duration::from_millis(100);
+/// Tries until one is good.
+const TRIES: usize = 5;
 
 /// Of the drive, in blocks: 256 MiB in memory, and 64 MiB in a file.
 fn rigs(folder: &image::Folder) -> Vec<(u64, Rig)> {
@@ -70,9 +73,11 @@ fn no_wait_is_long() {
             ("Write Zeroes", zeroes),
             ("Flush", flush),
         ] {
-            let longest = longest_wait(&mut rig, blocks, &others);
-            println!("{}: {what}: {longest:?}", rig.drive.describe());
-            assert!(longest < MOST, "{}: {what}: {longest:?}", rig.drive.describe());
+            let mut tries = (0..TRIES).map(|_| longest_wait(&mut rig, blocks, &others));
+            assert!(
+                tries.any(|longest| longest < MOST),
+                "{what}: none of {TRIES} was below {MOST:?}"
+            );
         }
         rig.close().expect("a clean end");
     }
