@@ -1,5 +1,5 @@
 -- What `nvmed_work` does: what is due of a scope, event by event, until nothing is or as many were made as were asked for (profile).
-use Rattle.std.specs.Prelude.{◌≡◌, ◌+◌, ◌-◌, ◌^◌, ◌<◌, ◌≤◌, ◌==◌, ℕ, zero, suc, ⊤, true, false, if◌then◌else◌, List, nat_lt, slice_get, IsSome, IsTrue, Option, Some, None, option_map}
+use Rattle.std.specs.Prelude.{◌≡◌, ◌+◌, ◌-◌, ◌^◌, ◌<◌, ◌≤◌, ◌==◌, ℕ, zero, suc, ⊤, true, false, if◌then◌else◌, nat_lt, slice_get, IsSome, IsTrue, Option, Some, None, option_map}
 use Rattle.nv_c.specs.declared.reading.GrantCopy.{GrantCopy}
 use Rattle.nv_c.specs.declared.reading.Stride.{Stride}
 use Rattle.nv_c.specs.declared.reading.Stride.TheVariants as stride

@@ -161,6 +161,28 @@ impl Desk {
         self.reap(lane).unwrap_or(Reply::Stale)
     }
 
+    /// A lane is closed.
+    pub fn close(&mut self, lane: u8) {
+        self.begin();
+        self.closes(lane);
+    }
+
+    // The same, in a call that has begun.
+    fn closes(&mut self, lane: u8) {
+        self.mediator.close(lane, &mut self.memory);
+    }
+
+    /// The host address of the completion of a lane that is read next; 0 where there is no such lane.
+    pub fn next_completion(&self, lane: u8) -> u64 {
+        match (
+            self.mediator.completion_ring(lane),
+            self.mediator.head(lane),
+        ) {
+            (Some(ring), Some(head)) => ring.wrapping_add(16 * u64::from(head)),
+            _ => 0,
+        }
+    }
+
     /// The drive, for what it shows.
     pub fn device(&self) -> &Device {
         &self.device

@@ -10,7 +10,7 @@
 //! In [`working`] what is due is carried out by `HostMediator::work` alone, beside a drive. [`sharing`] shows what a guest's share does to it.
 //!
 //! The memory ([`watched::Watched`]) marks each byte that a call reads or writes. So it shows whether a call reads a byte twice, or reads what it wrote
-//! itself.
+//! itself. It notes the accesses in their order, too, for [`order`].
 //!
 //! It is a crate of its own since a crate with tests is proved twice.
 #![tactic(auto)]
@@ -39,6 +39,8 @@ mod guests;
 mod log;
 #[cfg(test)]
 mod naming;
+#[cfg(test)]
+mod order;
 #[cfg(test)]
 mod pair;
 #[cfg(test)]

@@ -18,7 +18,10 @@ pub const AREA: u64 = 0x10_0000;
 pub const DISK: u64 = 4096;
 
 /// The regions of the first guest, which follow each other in its own memory and lie apart in the host's, and that of the second.
-const FIRST: [(u64, u64); 2] = [(0, 0x2_0000), (0x2_0000, 0x8_0000)];
+const FIRST: [(u64, u64); 2] = [(0, FIRST_HOST), (0x2_0000, 0x8_0000)];
+
+/// The host address of the first guest's first byte.
+pub const FIRST_HOST: u64 = 0x2_0000;
 
 const SECOND: [(u64, u64); 1] = [(0, 0x5_0000)];
 

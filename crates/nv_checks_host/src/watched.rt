@@ -1,4 +1,4 @@
-//! A host's memory that marks the bytes which a call reads and writes.
+//! A host's memory that marks the bytes which a call reads and writes, and notes its accesses in their order.
 
 ghost use Rattle.std.specs.Prelude.{◌≡◌, IfOk};
 
@@ -7,7 +7,25 @@ use std::alloc::Global;
 use std::cell::Cell;
 use std::marker::Model;
 
-/// A host's memory. It counts the bytes that a call reads though it has read or written them before.
+/// How many accesses of a call are noted at most.
+pub const ROOM: usize = 1024;
+
+/// An access of a call: whether it writes, and the bytes from one address on, up to another.
+#[derive(Clone, Copy)]
+pub struct Access {
+    writes: bool,
+    from: u64,
+    to: u64,
+}
+
+impl Access {
+    // Whether it is of that kind, and meets these bytes.
+    fn is_at(self, writes: bool, from: u64, to: u64) -> bool {
+        self.writes == writes && self.from < to && from < self.to
+    }
+}
+
+/// A host's memory. It counts the bytes that a call reads though it has read or written them before, and notes the accesses of the last call.
 #[derive(Drop)]
 pub struct Watched {
     pub(crate) host: Host,
@@ -20,6 +38,9 @@ pub struct Watched {
     // what was counted
     guests: Cell<u32>,
     own: Cell<u32>,
+    // the accesses of the call, in their order, and how many there were
+    accesses: Vec<Cell<Access>>,
+    count: Cell<usize>,
 }
 
 impl Model for Watched {
@@ -46,12 +67,15 @@ impl Watched {
             call: Cell::new(1),
             guests: Cell::new(0),
             own: Cell::new(0),
+            accesses: unused(alloc)?,
+            count: Cell::new(0),
         })
     }
 
     /// A call begins.
     pub fn begin(&self) {
         self.call.set(self.call.get().wrapping_add(1) & 0x7fff_ffff);
+        self.count.set(0);
     }
 
     /// How many bytes of guests were read though the call had read or written them.
@@ -88,8 +112,57 @@ impl Watched {
         again
     }
 
+    /// Whether all accesses of the call were noted.
+    pub fn has_all(&self) -> bool {
+        self.count.get() <= ROOM
+    }
+
+    /// The number of the call's first access that reads, or writes, any of so many bytes from an address on.
+    pub fn first(&self, writes: bool, addr: u64, len: u64) -> Option<usize> {
+        for number in 0..ROOM {
+            if self.is_access(number, writes, addr, len) {
+                return Some(number);
+            }
+        }
+        None
+    }
+
+    /// The number of the last.
+    pub fn last(&self, writes: bool, addr: u64, len: u64) -> Option<usize> {
+        let mut last = None;
+        for number in 0..ROOM {
+            if self.is_access(number, writes, addr, len) {
+                last = Some(number);
+            }
+        }
+        last
+    }
+
+    // Whether the call's access of that number is one.
+    fn is_access(&self, number: usize, writes: bool, addr: u64, len: u64) -> bool {
+        let Some(access) = self.accesses.get(number) else {
+            return false;
+        };
+        let access = access.get();
+        number < self.count.get() && access.is_at(writes, addr, addr.wrapping_add(len))
+    }
+
+    // Notes an access.
+    fn note(&self, writes: bool, addr: u64, len: u64) {
+        let number = self.count.get();
+        if let Some(access) = self.accesses.get(number) {
+            access.set(Access {
+                writes,
+                from: addr,
+                to: addr.wrapping_add(len),
+            });
+        }
+        self.count.set(number.saturating_add(1));
+    }
+
     // A call reads bytes: they are marked, and those that it had read or written are counted.
     fn note_read(&self, addr: u64, len: u64) {
+        self.note(false, addr, len);
         let again = self.mark_read(addr, len);
         if again > 0 {
             self.count(addr, again);
@@ -98,6 +171,7 @@ impl Watched {
 
     // Marks bytes as written.
     fn note_write(&self, addr: u64, len: u64) {
+        self.note(true, addr, len);
         let written = self.written();
         for mark in marks_at(&self.marks, addr, len) {
             mark.set(written);
@@ -121,6 +195,19 @@ fn unmarked(alloc: Global, len: u64) -> Result<Vec<Cell<u32>>, NoMemory> {
         marks.push(Cell::new(0))?;
     }
     Ok(marks)
+}
+
+// Room for the accesses of a call.
+fn unused(alloc: Global) -> Result<Vec<Cell<Access>>, NoMemory> {
+    let mut accesses = Vec::with_capacity(alloc, ROOM)?;
+    for _access in 0..ROOM {
+        accesses.push(Cell::new(Access {
+            writes: false,
+            from: 0,
+            to: 0,
+        }))?;
+    }
+    Ok(accesses)
 }
 
 // The marks of so many bytes from an address on; none where not all of them have marks.
@@ -207,4 +294,23 @@ fn bytes_that_are_read_again_are_counted(rt: HostRuntime) {
     loads(&memory, 5000);
     loads(&memory, 5000);
     assert!(rt; memory[0].guests_again() == 9 && memory[0].own_again() == 16);
+}
+
+#[test]
+fn accesses_are_noted_in_their_order(rt: HostRuntime) {
+    let host = Host::new(rt.alloc(), 8192).expect(&rt, "memory");
+    let watched = Watched::new(rt.alloc(), host, 4096).expect(&rt, "memory");
+    let mut memory = [watched];
+    loads(&memory, 64);
+    stores(&mut memory, 128);
+    loads(&memory, 140);
+    assert_eq!(rt; memory[0].first(false, 79, 1), Some(0));
+    assert_eq!(rt; memory[0].first(false, 80, 48), None);
+    assert_eq!(rt; memory[0].first(true, 143, 9), Some(1));
+    assert_eq!(rt; memory[0].first(false, 0, 999), Some(0));
+    assert_eq!(rt; memory[0].last(false, 0, 999), Some(2));
+    assert_eq!(rt; memory[0].last(true, 0, 128), None);
+    assert!(rt; memory[0].has_all());
+    memory[0].begin();
+    assert_eq!(rt; memory[0].first(false, 0, 999), None);
 }

@@ -34,7 +34,7 @@ const SECOND_HEAD: u32 = 0x1014;
 
 /// In which way the host asks for work.
 #[derive(Clone, Copy, PartialEq, Eq)]
-enum Way {
+pub enum Way {
     /// of all at once
     All,
     /// of each guest and each lane
@@ -43,11 +43,11 @@ enum Way {
     Steps,
 }
 
-// A desk, and how many commands each guest has entered.
+/// A desk, and how many commands each guest has entered.
 #[derive(Drop)]
-struct Shop {
-    alloc: Global,
-    desk: Desk,
+pub struct Shop {
+    pub alloc: Global,
+    pub desk: Desk,
     way: Way,
     entered: [u16; GUESTS as usize],
 }
@@ -87,8 +87,8 @@ impl Shop {
         }
     }
 
-    // A guest puts a command into its queue and rings; the identifiers are 1, 2 and so on.
-    fn enters(&mut self, guest: u8, fields: Fields) -> bool {
+    /// A guest puts a command into its queue and rings; the identifiers are 1, 2 and so on.
+    pub fn enters(&mut self, guest: u8, fields: Fields) -> bool {
         let Some(entered) = self.entered.get_mut(usize::from(guest)) else {
             return false;
         };
@@ -125,8 +125,8 @@ impl Shop {
             && self.does(guest, &Deed::Doorbell(SECOND_TAIL, tail))
     }
 
-    // What is due is carried out in the host's way; how many events that were, and whether nothing stopped them.
-    fn works(&mut self) -> (u64, bool) {
+    /// What is due is carried out in the host's way; how many events that were, and whether nothing stopped them.
+    pub fn works(&mut self) -> (u64, bool) {
         match self.way {
             Way::All => told(self.desk.work(self.alloc, Scope::All, MANY)),
             Way::Scopes => self.works_by_scopes(),
@@ -171,8 +171,8 @@ impl Shop {
         }
     }
 
-    // The drive carries out all that it was handed.
-    fn drives_all(&mut self) {
+    /// The drive carries out all that it was handed.
+    pub fn drives_all(&mut self) {
         for lane in 0..LANES {
             for _ in 0..TAGS {
                 self.drives(&Event::DevTake(lane));
@@ -206,8 +206,8 @@ impl Shop {
         [0; 512]
     }
 
-    // Whether a guest's command was completed with success, in one of so many places of its first queue.
-    fn was_completed(&mut self, guest: u8, identifier: u16, places: u16) -> bool {
+    /// Whether a guest's command was completed with success, in one of so many places of its first queue.
+    pub fn was_completed(&mut self, guest: u8, identifier: u16, places: u16) -> bool {
         self.was_completed_in(COMPLETIONS, guest, identifier, places)
     }
 
@@ -240,8 +240,8 @@ fn by_pages(opcode: u32, page: u32, list: u32) -> Fields {
     }
 }
 
-// A transfer by a list of two descriptors, of two blocks.
-fn by_descriptors(opcode: u32, list: u32) -> Fields {
+/// A transfer by a list of two descriptors, of two blocks.
+pub fn by_descriptors(opcode: u32, list: u32) -> Fields {
     Fields {
         opcode: opcode | 0x4000,
         data: [list, 0, 32, 0x3000_0000],
@@ -258,8 +258,8 @@ fn flush() -> Fields {
     }
 }
 
-// Both guests, with queue pair 1.
-fn opened(rt: &impl Abort, alloc: Global, way: Way) -> Shop {
+/// Both guests, with queue pair 1.
+pub fn opened(rt: &impl Abort, alloc: Global, way: Way) -> Shop {
     let mut shop = Shop::new(alloc, way).expect(rt, "a desk");
     for guest in 0..GUESTS {
         for deed in BRING_UP {
@@ -270,8 +270,8 @@ fn opened(rt: &impl Abort, alloc: Global, way: Way) -> Shop {
     shop
 }
 
-// A guest stores what it writes, and the lists of its commands.
-fn stores(rt: &impl Abort, shop: &mut Shop, guest: u8) {
+/// A guest stores what it writes, and the lists of its commands.
+pub fn stores(rt: &impl Abort, shop: &mut Shop, guest: u8) {
     let mark = u64::from(guest) + 1;
     for (addr, low, high) in [
         (0x3000, mark, 3),

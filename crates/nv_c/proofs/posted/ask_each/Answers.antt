@@ -1,4 +1,4 @@
-use Rattle.std.proofs.Common.{◌≡◌, ◌∙◌, ◌<◌, Option, Some, length, arith, refl, sym, ap}
+use Rattle.std.proofs.Common.{◌≡◌, ◌∙◌, length, arith, refl, sym, ap}
 use Rattle.std.specs.Option.{option_map}
 use Rattle.nv_c.proofs.News.{asked-more}
 use Rattle.nv_laws_sound.proofs.Lists.{some-same}
