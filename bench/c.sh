@@ -5,8 +5,8 @@
 # archive for memory. It links with the C library alone, and its only global names are the functions that nvmed.h declares.
 #
 # The programs are built against a copy that is installed in a folder of this run, with the words of pkg-config: host.c and hosting.c of examples/, c.c and
-# serve.c of bench/wrong/ and bench/shares.c in C11 and as C++17, examples/threads.c and bench/racing.c in C11, examples/host.cc in C++17, examples/host.rs in
-# Rust, with warnings as errors. A check is one of these programs in one of the languages, run once: what it prints must be its .expected file, and under
+# serve.c of bench/wrong/, bench/shares.c and bench/messages.c in C11 and as C++17, examples/threads.c and bench/racing.c in C11, examples/host.cc in C++17,
+# examples/host.rs in Rust, with warnings as errors. A check is one of these programs in one of the languages, run once: what it prints must be its .expected file, and under
 # valgrind there must be no error and no leak. Further checks are the C programs with sanitizers of addresses and of undefined behaviour, threads.c with
 # ThreadSanitizer, too (the races of racing.c are wanted), examples/host.c with the C library alone beside functions that have names of the toolchain's
 # archive, two of the installation, and those of the library without proofs: that it is installed, says what it is, and runs two examples. Each check that
@@ -348,6 +348,7 @@ for language in c cxx rust; do
             check_program bench/wrong/c.c bench/wrong/c.expected "$language"
             check_program bench/wrong/serve.c bench/wrong/serve.expected "$language"
             check_program bench/shares.c bench/shares.expected "$language"
+            check_program bench/messages.c bench/messages.expected "$language"
             ;;&
         c)
             check_program examples/threads.c examples/threads.expected c -pthread
@@ -366,6 +367,7 @@ if [[ -n $it ]]; then
     check "bench/wrong/c.c with sanitizers" sanitized bench/wrong/c.c bench/wrong/c.expected "$it" "${sanitizers[@]}"
     check "bench/wrong/serve.c with sanitizers" sanitized bench/wrong/serve.c bench/wrong/serve.expected "$it" "${sanitizers[@]}"
     check "bench/shares.c with sanitizers" sanitized bench/shares.c bench/shares.expected "$it" "${sanitizers[@]}"
+    check "bench/messages.c with sanitizers" sanitized bench/messages.c bench/messages.expected "$it" "${sanitizers[@]}"
     check "bench/racing.c with sanitizers" sanitized bench/racing.c bench/racing.expected "$it" "${sanitizers[@]}" -pthread
 else
     say "no compiler of C has sanitizers: left out are the checks with them"

@@ -67,7 +67,7 @@ extern "C" {
 /* The version of this interface. Its major number changes when a call or a struct changes or goes: programs must be compiled anew. Its minor number
  * changes when calls are added: programs that were compiled before go on as they are. NVMED_VERSION is both in one number, which may be compared. */
 #define NVMED_VERSION_MAJOR 2
-#define NVMED_VERSION_MINOR 2
+#define NVMED_VERSION_MINOR 3
 #define NVMED_VERSION (NVMED_VERSION_MAJOR * 65536u + NVMED_VERSION_MINOR)
 
 /* What a call returns. All but NVMED_OK are errors. */
@@ -184,6 +184,16 @@ typedef struct nvmed_seen {
     uint32_t vectors[16][NVMED_VECTORS];
 } nvmed_seen;
 
+/* Where a completion queue of a guest stood, and the nine of one guest as nvmed_posted saw them last: all zero before its first call. What they are is the
+ * library's own. */
+typedef struct nvmed_standing {
+    uint16_t size, tail, head, phase;
+} nvmed_standing;
+
+typedef struct nvmed_posted_seen {
+    nvmed_standing queues[NVMED_VECTORS];
+} nvmed_posted_seen;
+
 /* Of whom nvmed_work does what is due. */
 typedef enum nvmed_scope { NVMED_OF_GUEST = 1, NVMED_OF_LANE = 2, NVMED_OF_ALL = 3 } nvmed_scope;
 
@@ -204,6 +214,7 @@ uint32_t nvmed_raw_work(nvmed_handle *, uint32_t, uint32_t, uint64_t, uint64_t *
 uint32_t nvmed_raw_rings(nvmed_handle *, uint32_t, nvmed_lane_rings *);
 uint32_t nvmed_raw_pending(nvmed_handle *, uint32_t, uint32_t, uint32_t *);
 uint32_t nvmed_raw_seen(nvmed_handle *, uint32_t, uint32_t *, size_t);
+uint32_t nvmed_raw_posted(nvmed_handle *, uint32_t, nvmed_standing *, size_t, uint32_t *, size_t);
 uint32_t nvmed_raw_share(nvmed_handle *, uint32_t, uint32_t);
 uint32_t nvmed_raw_close(nvmed_handle *, uint32_t, uint8_t *, size_t);
 uint32_t nvmed_raw_memory(nvmed_handle *, uint32_t, uint64_t, uint8_t *, size_t, const uint8_t **, uint64_t *);
@@ -379,6 +390,31 @@ static inline nvmed_status nvmed_changed(nvmed *m, nvmed_seen *seen, uint32_t *g
     }
     /* the first number that is no guest's ends the loop */
     return status == NVMED_IDLE || status == NVMED_IGNORED ? NVMED_OK : status;
+}
+
+/* Which vectors of a guest to signal, for a host whose interrupts are messages (MSI, MSI-X): *count of its vectors, of queues in ascending order, so that one
+ * which several queues have may be there more than once. They are those that are pending (nvmed_pending) of queues that stand elsewhere than when it was
+ * called last with *seen: completions were posted since, the guest has acknowledged some and others are left, or the queue was made anew. nvmed_changed is
+ * not enough for messages: a second completion before the guest has acknowledged the first leaves the set of vectors as it was.
+ *
+ * Such a host calls it, for each guest, after each nvmed_work and nvmed_step, and for the guest after its nvmed_doorbell and nvmed_reg_write, before the next
+ * of these calls; and it signals just these vectors. Then no completion is without a message: one call posts fewer completions to a queue than it has slots,
+ * so that the place of the next one is another; and none to a queue that it makes, since the guest has not rung that queue's doorbell yet. A host that leaves
+ * calls out may miss one: a queue that went round, or that was deleted and made anew, may stand as before.
+ *
+ * Each guest has a nvmed_posted_seen of its own, which begins with zeros, and is used with one mediator. It needs no memory. SAFE, EXACT (of each queue; that
+ * the vectors are put one behind another is a line of this header).
+ * Errors: NULL, NO_MEDIATOR, NO_SUCH (above 255, or the mediator is a simulation), IGNORED (no such guest); *count is 0 then, and *seen as it was. */
+static inline nvmed_status nvmed_posted(nvmed *m, uint32_t guest, nvmed_posted_seen *seen, uint16_t vectors[NVMED_VECTORS], uint32_t *count) {
+    uint32_t queue, told[NVMED_VECTORS] = {0};
+    nvmed_status status;
+    if (!m || !seen || !vectors || !count) return NVMED_NULL;
+    *count = 0;
+    status = (nvmed_status)nvmed_raw_posted(&m->handle, guest, seen->queues, NVMED_VECTORS, told, NVMED_VECTORS);
+    for (queue = 0; queue < NVMED_VECTORS; queue++) {
+        if (told[queue] != 0) vectors[(*count)++] = (uint16_t)(told[queue] - 1);
+    }
+    return status;
 }
 
 /* Gives a guest a share of `tags` of each lane's 64 tags: nvmed_work takes a command of the guest for a lane only while the guest's tags there, with one

@@ -72,10 +72,12 @@ static void set_ups(void) {
 static void not_for(nvmed *m, nvmed_status status) {
     nvmed_lane_rings rings;
     nvmed_seen seen;
+    nvmed_posted_seen stood;
     uint16_t vectors[NVMED_VECTORS];
-    uint32_t some = 7, changed = 7;
+    uint32_t some = 7, changed = 7, posted = 7;
     memset(&rings, 0x5a, sizeof rings);
     memset(&seen, 0x5a, sizeof seen);
+    memset(&stood, 0x5a, sizeof stood);
     for (int i = 0; i < NUMBERS; i++) {
         uint32_t n = numbers[i];
         nvmed_status answer = n > 255 && status != NVMED_NULL ? NVMED_NO_SUCH : status;
@@ -83,6 +85,8 @@ static void not_for(nvmed *m, nvmed_status status) {
         want("close", answer, nvmed_close(m, n));
         want("pending", answer, nvmed_pending(m, n, vectors, &some));
         left("rings and pending", rings.entries == 0x5a5a5a5a && (status == NVMED_NULL || some == 0));
+        want("posted", answer, nvmed_posted(m, n, &stood, vectors, &posted));
+        left("posted", stood.queues[n % NVMED_VECTORS].tail == 0x5a5a && (status == NVMED_NULL || posted == 0));
         want("share", answer, nvmed_share(m, n, 64));
         want("changed", status, nvmed_changed(m, &seen, &changed));
         left("changed", seen.vectors[n % 16][n % NVMED_VECTORS] == 0x5a5a5a5a && (status == NVMED_NULL || changed == 0));
@@ -93,6 +97,7 @@ static void not_for(nvmed *m, nvmed_status status) {
 static void numbers_everywhere(nvmed *m) {
     nvmed_lane_rings rings;
     nvmed_seen seen;
+    nvmed_posted_seen stood;
     uint16_t vectors[NVMED_VECTORS];
     uint32_t count = 7, word;
     uint64_t done;
@@ -102,6 +107,10 @@ static void numbers_everywhere(nvmed *m) {
     want("rings", NVMED_NULL, nvmed_rings(m, 0, NULL));
     want("pending", NVMED_NULL, nvmed_pending(m, 0, NULL, &count));
     want("pending", NVMED_NULL, nvmed_pending(m, 0, vectors, NULL));
+    memset(&stood, 0x5a, sizeof stood);
+    want("posted", NVMED_NULL, nvmed_posted(m, 0, NULL, vectors, &count));
+    want("posted", NVMED_NULL, nvmed_posted(m, 0, &stood, NULL, &count));
+    want("posted", NVMED_NULL, nvmed_posted(m, 0, &stood, vectors, NULL));
     want("changed", NVMED_NULL, nvmed_changed(m, NULL, &count));
     want("changed", NVMED_NULL, nvmed_changed(m, &seen, NULL));
     want("a second mediator", NVMED_IN_USE, nvmed_serve(m, memory, &good, limits, 1, regions, 1, extents, 1));
@@ -112,6 +121,9 @@ static void numbers_everywhere(nvmed *m) {
         if (n) want("close", NVMED_NO_SUCH, nvmed_close(m, n));
         want("pending", n == 0 ? NVMED_OK : n > 255 ? NVMED_NO_SUCH : NVMED_IGNORED, nvmed_pending(m, n, vectors, &count));
         left("pending", count == 0);
+        stood.queues[i % NVMED_VECTORS].head = 0x5a5a;
+        want("posted", n == 0 ? NVMED_OK : n > 255 ? NVMED_NO_SUCH : NVMED_IGNORED, nvmed_posted(m, n, &stood, vectors, &count));
+        left("posted", count == 0 && stood.queues[i % NVMED_VECTORS].head == (n == 0 ? 0 : 0x5a5a));
         want("share", n == 0 ? NVMED_OK : n > 255 ? NVMED_NO_SUCH : NVMED_IGNORED, nvmed_share(m, n, 64));
         want("share", n >= 1 && n <= 64 ? NVMED_OK : NVMED_BAD_SIZE, nvmed_share(m, 0, n));
         want("memory", NVMED_NO_SUCH, nvmed_memory(m, n == 1 || n > 255 ? 0 : n, 0, bytes, sizeof bytes, &at, &done));

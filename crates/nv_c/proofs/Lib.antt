@@ -5,5 +5,6 @@ pub mod Views
 pub mod Rests
 pub mod Works
 pub mod ListJobs
+pub mod News
 pub mod Readings
 pub mod Seen

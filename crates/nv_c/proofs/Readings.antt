@@ -5,7 +5,7 @@ use Rattle.nv_c.proofs.ListJobs.{list-job}
 use Rattle.nv_c.proofs.Works.{leads_one}
 use Rattle.nv_host.proofs.Readings.{some-is}
 use Rattle.nv_host.proofs.Rests.{own-job}
-use Rattle.nv_c.specs.Work.{IsIn, IsReading, IsWaiting, IsWork, Leads, MayGiveUp, Rests}
+use Rattle.nv_c.specs.Work.{IsIn, IsReading, IsWaiting, IsWanting, IsWork, Leads, MayGiveUp}
 use Rattle.nv_c.specs.declared.working.Scope.{Scope}
 use Rattle.nv_c.specs.declared.working.Scope.TheVariants as scope
 use Rattle.nv_core.specs.Jobs.{holder_of, job_of}
@@ -70,13 +70,15 @@ pub waiting-submit : (s : Scope) (h : Hosted) (job : Job) (given : Guest) (plan 
 waiting-submit s h job given plan waiting settled =
     record { own = own-submit s (hosted_world h) job.lane job.tag waiting.own; next = (job, given, plan, waiting.waits, settled) }
 
--- so something is left to be done
-pub waiting-works : (s : Scope) (h : Hosted) (job : Job) (given : Guest) → IsWaiting s h job given → Rests s h → ⊥
-waiting-works s h job given waiting rests = by_outcome (outcome_of given job) refl
+-- so something comes next that may want memory
+pub waiting-wants : (s : Scope) (h : Hosted) (job : Job) (given : Guest) → IsWaiting s h job given → IsWanting s h
+waiting-wants s h job given waiting = by_outcome (outcome_of given job) refl
   where
-    by_outcome : (o : Outcome Plan) → outcome_of given job ≡ o → ⊥
-    by_outcome (Wanted addr len) e = rests (event.List job.lane job.tag addr len) (waiting-list s h job given addr len waiting e)
-    by_outcome (Settled plan) e = rests (event.Submit job.lane job.tag) (waiting-submit s h job given plan waiting e)
+    by_outcome : (o : Outcome Plan) → outcome_of given job ≡ o → IsWanting s h
+    by_outcome (Wanted addr len) e =
+        record { event = event.List job.lane job.tag addr len; work = waiting-list s h job given addr len waiting e; wants = refl }
+    by_outcome (Settled plan) e =
+        record { event = event.Submit job.lane job.tag; work = waiting-submit s h job given plan waiting e; wants = refl }
 
 pub waiting-may : (s : Scope) (h : Hosted) (job : Job) (given : Guest) → IsWaiting s h job given → MayGiveUp s h job.lane job.tag
 waiting-may s h job given waiting =

@@ -6,7 +6,7 @@ use Rattle.std.proofs.lemmas.Bool.Decides.{nat_tests}
 use Rattle.std.proofs.lemmas.Option.{none-some, slice_get_past}
 use Rattle.std.specs.Option.{option_map}
 use Rattle.nv_c.proofs.Works.{IsUnheld, dev_move-no_slot, dev_post-no_slot, dev_take-no_lane, reap-no_lane}
-use Rattle.nv_c.specs.Work.{IsChoice, IsIn, IsNext, IsWaitingAt, NonePosts, NoneTakes, NoneWaits, PartyRests, Rests, SlotRests, guest_served}
+use Rattle.nv_c.specs.Work.{IsChoice, IsIn, IsNext, IsWaitingAt, IsWanting, NonePosts, NoneTakes, NoneWaits, PartyRests, Rests, SlotRests, guest_served}
 use Rattle.nv_c.specs.declared.working.Choice.{Choice}
 use Rattle.nv_c.specs.declared.working.Choice.TheVariants as choice
 use Rattle.nv_c.specs.declared.working.Scope.{Scope}
@@ -165,6 +165,9 @@ at_all : (s : Scope) (h : Hosted) (lane tag : ℕ) → IsWaitingAt s h lane tag 
 at_all s h lane tag is =
     record { job = is.job; given = is.given; there = is.there; waiting = record { waits = is.waiting.waits; own = tt } }
 
+at_any : (s : Scope) (h : Hosted) → IsWanting s h → IsWanting scope.All h
+at_any s h is = record { event = is.event; work = record { own = tt; next = is.work.next }; wants = is.wants }
+
 -- what is chosen of a guest or a lane is chosen of all
 pub choice_guest : (h : Hosted) (number : ℕ) (c : Choice) → number < 16
     → IsChoice (scope.Guest number) h (Rests (scope.Guest number) h) c → IsChoice scope.All h (PartyRests h number) c
@@ -174,7 +177,7 @@ choice_guest h number (choice.Read job) below is = (is.0, record { waits = is.1.
 choice_guest h number (choice.Resume lane tag) below is = at_all (scope.Guest number) h lane tag is
 choice_guest h number (choice.GiveUp lane tag) below is = record { own = tt; waits = is.waits }
 choice_guest h number choice.Nothing below is = record { guest = λ less. is; lane = λ beyond. absurd (omega (arith, below, beyond)) }
-choice_guest h number choice.Starved below is = λ rests. is (λ e work. rests e (record { own = tt; next = work.next }))
+choice_guest h number choice.Starved below is = at_any (scope.Guest number) h is
 
 pub choice_lane : (h : Hosted) (number lane : ℕ) (c : Choice) → 16 ≤ number → lane ≡ number - 16
     → IsChoice (scope.Lane lane) h (Rests (scope.Lane lane) h) c → IsChoice scope.All h (PartyRests h number) c
@@ -185,7 +188,7 @@ choice_lane h number lane (choice.Resume at tag) beyond same is = at_all (scope.
 choice_lane h number lane (choice.GiveUp at tag) beyond same is = record { own = tt; waits = is.waits }
 choice_lane h number lane choice.Nothing beyond same is =
     record { guest = λ below. absurd (omega (arith, below, beyond)); lane = λ more. subst (λ (n : ℕ). Rests (scope.Lane n) h) same is }
-choice_lane h number lane choice.Starved beyond same is = λ rests. is (λ e work. rests e (record { own = tt; next = work.next }))
+choice_lane h number lane choice.Starved beyond same is = at_any (scope.Lane lane) h is
 
 -- what nothing says may say more
 pub choice_more : (s : Scope) (h : Hosted) (nothing more : Type 0) (c : Choice) → (nothing → more) → IsChoice s h nothing c → IsChoice s h more c

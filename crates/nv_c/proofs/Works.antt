@@ -1,7 +1,7 @@
 -- Events that work makes in a row, and what is left of a world where nothing of a scope comes next.
 use Rattle.std.proofs.Common.{◌≡◌, refl, sym, subst, ap, ◌∙◌, ℕ, zero, suc, ◌+◌, ◌-◌, ◌<◌, ◌≤◌, false, arith}
 use Rattle.std.proofs.Common.{slice_get, Option, Some, None}
-use Rattle.nv_c.specs.Work.{GivesUp, HasEnough, IsOneMade, IsStarved, IsTurn, IsWork, Leads, LeadsUp, MayGiveUp, Rests, turn_with}
+use Rattle.nv_c.specs.Work.{GivesUp, HasEnough, IsOneMade, IsStarved, IsTurn, IsWanting, IsWork, Leads, LeadsUp, MayGiveUp, Rests, turn_with}
 use Rattle.nv_c.specs.declared.working.Scope.{Scope}
 use Rattle.nv_c.specs.declared.working.Turn.{Turn}
 use Rattle.nv_c.specs.declared.working.Turn.TheVariants as turn
@@ -50,13 +50,13 @@ worked_idle s most done a b c leads below same rests =
     }
 
 -- there was no memory for what was
-pub worked_starved : (s : Scope) (most done : ℕ) (a b c : Hosted) → Leads s done a b → done < most → c ≡ b → (Rests s b → ⊥)
+pub worked_starved : (s : Scope) (most done : ℕ) (a b c : Hosted) → Leads s done a b → done < most → c ≡ b → IsWanting s b
     → IsStarved s most done a c
-worked_starved s most done a b c leads below same some =
+worked_starved s most done a b c leads below same left =
     record {
       leads = subst (λ (x : Hosted). Leads s done a x) (sym same) leads;
       few = below;
-      some = λ rests. some (subst (λ (x : Hosted). Rests s x) same rests);
+      left = subst (λ (x : Hosted). IsWanting s x) (sym same) left;
     }
 
 -- as many were made as were asked for
@@ -86,7 +86,7 @@ turn_after (suc n) turn.Idle s most a b c first below made =
     (subst (λ (x : Hosted). Leads s (suc n) a x) (sym made.0) first, omega arith, omega (arith, below))
 turn_after zero turn.Starved s most a b c first below made =
     let same = leads_zero s a b first in
-    (made.0 ∙ same, λ rests. made.1 (subst (λ (x : Hosted). Rests s x) (sym same) rests))
+    (made.0 ∙ same, subst (λ (x : Hosted). IsWanting s x) same made.1)
 turn_after (suc n) turn.Starved s most a b c first below made =
     (subst (λ (x : Hosted). Leads s (suc n) a x) (sym made.0) first, omega arith, omega (arith, below))
 

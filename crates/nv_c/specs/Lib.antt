@@ -1,6 +1,7 @@
 pub mod Calls
 pub mod Held
 pub mod Names
+pub mod Posted
 pub mod Promise
 pub mod Serving
 pub mod Tables

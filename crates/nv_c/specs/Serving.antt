@@ -79,13 +79,14 @@ IsLoaded e room filled before after old status new =
     (r : Reply) × (status ≡ status_of r) × (new ≡ old)
     × ((r ≡ reply.Done) × IsDone e old before (reply.Bytes filled) old after ⊎ (bytes_told r ≡ None) × (filled ≡ room) × IsDone e old before r old after)
 
--- it was reported whether the event is due in each world of a log that leads there, and, but for a Reap, in each in which the mediator may be at all; none
--- is for a lane that was closed. Nothing has changed
+-- it was reported whether the event is due in each world of a log that leads there, and, but for a Reap, in each in which the mediator may be at all; and of
+-- a Reap whether a completion of the lane waits, whatever led there. None is due for a lane that was closed. Nothing has changed
 abbrev pub IsTold : Event → (told : ℕ) → (before after : List ℕ) → (old : Served) → (status : ℕ) → (new : Served) → Type 0
 IsTold e told before after old status new =
     (status ≡ ok) × (new ≡ old) × (after ≡ before)
     × ((first : World) (log : List Logged) (z : World) → LeadsTo old first before log z → told ≡ (if is_offered old e && due old.setup.geometry e z then 1 else 0))
     × ((w : World) → IsBeside old.side before w → is_reap e ≡ false → told ≡ (if is_offered old e && due old.setup.geometry e w then 1 else 0))
+    × ((lane : ℕ) → e ≡ event.Reap lane → told ≡ (if waits_in old.setup.geometry lane (slice_get old.side.lanes lane) before then 1 else 0))
 
 -- of the event that a struct names
 abbrev pub IsNamedTold : c.Event → (told : ℕ) → (before after : List ℕ) → (old : Served) → (status : ℕ) → (new : Served) → Type 0

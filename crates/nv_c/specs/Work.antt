@@ -1,5 +1,5 @@
 -- What `nvmed_work` does: what is due of a scope, event by event, until nothing is or as many were made as were asked for (profile).
-use Rattle.std.specs.Prelude.{◌≡◌, ◌+◌, ◌-◌, ◌^◌, ◌<◌, ◌≤◌, ◌==◌, ℕ, zero, suc, ⊤, true, false, if◌then◌else◌, List, nat_lt, slice_get, IsSome, Option, Some, None, option_map}
+use Rattle.std.specs.Prelude.{◌≡◌, ◌+◌, ◌-◌, ◌^◌, ◌<◌, ◌≤◌, ◌==◌, ℕ, zero, suc, ⊤, true, false, if◌then◌else◌, List, nat_lt, slice_get, IsSome, IsTrue, Option, Some, None, option_map}
 use Rattle.nv_c.specs.declared.reading.GrantCopy.{GrantCopy}
 use Rattle.nv_c.specs.declared.reading.Stride.{Stride}
 use Rattle.nv_c.specs.declared.reading.Stride.TheVariants as stride
@@ -15,7 +15,7 @@ use Rattle.nv_c.specs.declared.working.Why.TheVariants as why
 use Rattle.nv_core.specs.Jobs.{holder_of, job_of}
 use Rattle.nv_core.specs.Submit.{IsCurrent, IsLimit}
 use Rattle.nv_host.specs.InRow.{LeadsBy, LeadsUpBy}
-use Rattle.nv_mediator.specs.Hosted.{Hosted, IsMade, hosted_world}
+use Rattle.nv_mediator.specs.Hosted.{Hosted, IsMade, hosted_world, may_want}
 use Rattle.nv_model.specs.Transcript.{Settled, Wanted}
 use Rattle.nv_model.specs.declared.reply.Reply.{Reply}
 use Rattle.nv_plan.specs.Fed.{UnderWay}
@@ -85,6 +85,12 @@ pub record IsWork (s : Scope) (h : Hosted) (e : Event) : Type 0 where
   pub own : IsIn s (hosted_world h) e
   pub next : IsNext h e
 
+-- it is, and may want memory: bytes of a command's list, a command that is handed on, or an entry that the physical controller takes
+pub record IsWanting (s : Scope) (h : Hosted) : Type 0 where
+  pub event : Event
+  pub work : IsWork s h event
+  pub wants : IsTrue (may_want event)
+
 -- nothing is
 abbrev pub Rests : Scope → Hosted → Type 0
 Rests s h = (e : Event) → IsWork s h e → ⊥
@@ -120,11 +126,11 @@ pub record HasEnough (s : Scope) (most done : ℕ) (old new : Hosted) : Type 0 w
   pub few : done ≤ most
   pub rests : done < most → Rests s new
 
--- there was no memory for what is left
+-- there was no memory for what is left, of which some may want memory
 pub record IsStarved (s : Scope) (most done : ℕ) (old new : Hosted) : Type 0 where
   pub leads : Leads s done old new
   pub few : done < most
-  pub some : Rests s new → ⊥
+  pub left : IsWanting s new
 
 -- there was no memory for the plan of a command, which was given up
 pub record HasGivenUp (s : Scope) (most done : ℕ) (old new : Hosted) : Type 0 where
@@ -141,12 +147,12 @@ IsWorked s most ended old new = IsWorkedFor s most ended.done ended.why old new
 
 -- ---- what the calls below need
 
--- so many events were made, at least one; or none, since nothing was left or there was no memory; or some, of which the last gave a command up
+-- so many events were made, at least one; or none, since nothing was left or there was no memory for what may want some; or some, of which the last gave a command up
 abbrev pub IsTurn : Scope → (most : ℕ) → (old : Hosted) → Turn → (new : Hosted) → Type 0
 IsTurn s most old (turn.Served count) new = Leads s count old new × (0 < count) × (count ≤ most)
 IsTurn s most old (turn.GaveUp count) new = LeadsUp s count old new × (count ≤ most)
 IsTurn s most old turn.Idle new = (new ≡ old) × Rests s old
-IsTurn s most old turn.Starved new = (new ≡ old) × (Rests s old → ⊥)
+IsTurn s most old turn.Starved new = (new ≡ old) × IsWanting s old
 
 -- a turn after so many events: where it came to nothing, these are the turn
 abbrev pub turn_with : (done : ℕ) → Turn → Turn
@@ -197,7 +203,7 @@ IsStride s old before stride.Read new after = Leads s 1 old new × IsReading s n
 IsStride s old before stride.Planned new after =
     (new ≡ old) × (after ≡ before) × ((plan : Plan) × (outcome_of before.given before.job ≡ Settled plan))
 IsStride s old before stride.Starved new after = (new ≡ old) × (after ≡ before)
-IsStride s old before stride.Full new after = (new ≡ old) × (Rests s old → ⊥)
+IsStride s old before stride.Full new after = (new ≡ old) × IsWanting s old
 IsStride s old before stride.Lost new after = Leads s 1 old new
 
 -- what was chosen comes next: an event, a plan, bytes of a command's lists, or a command that is given up; or nothing was found, which says that
@@ -210,7 +216,7 @@ IsChoice s h nothing (choice.Read job) = (given : Guest) × IsWaiting s h job gi
 IsChoice s h nothing (choice.Resume lane tag) = IsWaitingAt s h lane tag
 IsChoice s h nothing (choice.GiveUp lane tag) = MayGiveUp s h lane tag
 IsChoice s h nothing choice.Nothing = nothing
-IsChoice s h nothing choice.Starved = Rests s h → ⊥
+IsChoice s h nothing choice.Starved = IsWanting s h
 
 -- an event was found that comes next; or none was, which says that much
 abbrev pub IsFound : Scope → Hosted → (nothing : Type 0) → Option Event → Type 0

@@ -117,8 +117,8 @@ fn has_changed(pending: &[Option<u16>; QUEUE_COUNT], vectors: &mut [u32]) -> boo
     true
 }
 
-// A vector as a host keeps it.
-fn kept(vector: Option<u16>) -> u32
+/// A vector as a host keeps it.
+pub(crate) fn kept(vector: Option<u16>) -> u32
     ensures { result ≡ vector_kept vector }
 {
     match vector {

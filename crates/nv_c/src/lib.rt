@@ -22,6 +22,7 @@ ghost use Rattle.std.specs.Prelude.{◌≡◌, ◌⊎◌, IsSome, MatchOption, N
 ghost use Rattle.nv_c.specs.Calls.{Either, HasNone, IsBlockTold, IsDone, IsError, IsKeptTold, IsLeft, IsLoaded, IsNamedStep, IsNamedTold, IsOpened};
 ghost use Rattle.nv_c.specs.Calls.{IsRead, IsCleared, IsServing, IsStepped, IsWorkTold, Lent, OfGuest, On, no_mediator, no_such};
 ghost use Rattle.nv_c.specs.Names.{NamesNone};
+ghost use Rattle.nv_c.specs.Posted.{HasNoNews, IsNewsTold};
 ghost use Rattle.nv_c.specs.Serving.{HasNoShares, IsLoaded as IsLoadedLent, IsNamedStep as IsNamedStepLent, IsNamedTold as IsNamedToldLent, IsRead as IsReadLent, IsShareGiven};
 ghost use Rattle.nv_c.specs.Serving.{IsWorkLent, HasNoLane, HasNoRings, HasNoVector, HasNoVectors, IsClosed, IsRaisedTold, IsRingsTold, IsSeenTold, IsServed, IsStepped as IsSteppedLent};
 ghost use Rattle.nv_c.specs.Tables.{setup_of};
@@ -34,6 +35,7 @@ mod handle;
 mod held;
 mod interrupts;
 mod kept;
+mod posted;
 mod reading;
 mod rings;
 mod serving;
@@ -50,19 +52,20 @@ use held::Held;
 use nv_mediator::Mediator;
 use nv_model::Act;
 use nv_world_model::Event as Made;
+pub use posted::Standing;
 pub use rings::Rings;
 pub use setup::{GuestExtent, Region, Sizes};
 use simulated::Simulated;
 use std::alloc::Global;
 use working::Scope;
 
-/// Version 2.2.
-const VERSION: u32 = 131_074;
+/// Version 2.3.
+const VERSION: u32 = 131_075;
 
 /// The version of the interface: its major number times 65,536, plus its minor number.
 #[unsafe(no_mangle)]
 pub extern "C" fn nvmed_raw_version() -> u32
-    ensures { result ≡ 131074 }
+    ensures { result ≡ 131075 }
 {
     VERSION
 }
@@ -373,6 +376,27 @@ pub extern "C" fn nvmed_raw_seen(
 {
     match event::byte(guest) {
         Some(guest) => interrupts::seen(alloc, handle, guest, vectors),
+        None => status::NO_SUCH,
+    }
+}
+
+/// Which vectors of a guest are to be signalled by messages, and where its completion queues stand now, 9 of each: of each queue the vector that it raises,
+/// where it stands elsewhere than is kept, as one more than its number, and else 0. After an error all is as it was.
+#[unsafe(no_mangle)]
+pub extern "C" fn nvmed_raw_posted(
+    alloc: Global,
+    handle: &mut Nvmed,
+    guest: u32,
+    seen: &mut [Standing],
+    vectors: &mut [u32],
+) -> u32
+    ensures value { OfGuest guest (Either (HasNoNews seen.old seen.new vectors.old vectors.new) (IsNewsTold guest seen.old seen.new vectors.old vectors.new))
+        handle.old.hosted result handle.new.hosted }
+    ensures seen { IsError result → seen.new ≡ seen.old }
+    ensures vectors { IsError result → vectors.new ≡ vectors.old }
+{
+    match event::byte(guest) {
+        Some(guest) => posted::posted(alloc, handle, guest, seen, vectors),
         None => status::NO_SUCH,
     }
 }

@@ -17,6 +17,7 @@ pub mod DeviceSteps
 pub mod DevicePosts
 pub mod DeviceTakes
 pub mod ReapAnswers
+pub mod LastDwords
 pub mod Reaps
 pub mod Dues
 pub mod FullQueues

@@ -20,7 +20,7 @@ use crate::area::completion_slot;
 use crate::front::Front;
 use crate::lane::Lane;
 use crate::layout::{Grant, Layout};
-use crate::reaping::completion_at;
+use crate::reaping::{last_dword_at, phase_in};
 use crate::taking::is_io_queue;
 use nv_mem::MemoryCell;
 use nv_plan::tags_wanted;
@@ -58,7 +58,8 @@ impl Front {
         let _known = C::len(host);
         let ring = &self.lanes[at];
         let slot = completion_slot(layout.mediator(), lane, ring.head());
-        completion_at(slot, host).phase() == ring.wanted_phase()
+        let last = last_dword_at(slot, host);
+        phase_in(slot, last, host) == ring.wanted_phase()
     }
 
     /// Whether a command of a guest's I/O queue may be taken, and as many tags of the lane are free as it wants.

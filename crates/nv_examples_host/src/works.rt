@@ -86,6 +86,8 @@ pub fn ends()
     ensures not_enough { (s : Scene) → HasEnded scope.All 1 0 ⊥ why.Enough s s → ⊥ }
     ensures starved_with_all_done { (s : Scene) → HasEnded scope.All 1 1 ⊤ why.Starved s s → ⊥ }
     ensures starved_with_nothing_left { (s : Scene) → Rests scope.All s → HasEnded scope.All 1 0 ⊤ why.Starved s s → ⊥ }
+    // Of a lane nothing may want memory.
+    ensures starved_of_a_lane { (s : Scene) (lane : ℕ) → HasEnded (scope.Lane lane) 1 0 ⊤ why.Starved s s → ⊥ }
     ensures given_up_and_more { (s : Scene) → HasEnded scope.All 1 2 ⊤ why.GaveUp s s → ⊥ }
     ensures nothing_given_up { (s : Scene) → HasEnded scope.All 1 0 ⊤ why.GaveUp s s → ⊥ }
     ensures stray_with_all_done { (s : Scene) → HasEnded scope.All 1 1 ⊤ (why.Stray 0) s s → ⊥ }

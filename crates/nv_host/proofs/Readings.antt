@@ -6,9 +6,9 @@ use Rattle.nv_core.specs.Submit.{IsCurrentIn, IsOfTag}
 use Rattle.nv_core.specs.declared.holding.Holder.{Holder}
 use Rattle.nv_host.proofs.ListJobs.{job_read, list-job}
 use Rattle.nv_host.proofs.Rests.{own-job, true-false}
-use Rattle.nv_host.proofs.Works.{leads_one, work-left}
+use Rattle.nv_host.proofs.Works.{leads_one}
 use Rattle.nv_host.specs.Passes.{IsOwn, IsReading, IsWaiting, MayGiveUp}
-use Rattle.nv_host.specs.Work.{IsMade, IsWork, Leads, Rests, Scene}
+use Rattle.nv_host.specs.Work.{IsMade, IsWanting, IsWork, Leads, Scene}
 use Rattle.nv_host.specs.declared.worked.Scope.TheVariants as scope
 use Rattle.nv_laws_sound.proofs.Lists.{some-same}
 use Rattle.nv_model.specs.Transcript.{Outcome, ReadDone, Settled, Wanted}
@@ -70,15 +70,15 @@ pub waiting-submit : (guest : ℕ) (s : Scene) (job : Job) (given : Guest) (plan
 waiting-submit guest s job given plan waiting settled =
     record { own = waiting.own; due_now = (λ w on. (job, given, plan, waiting.waits, settled)) }
 
--- so something is left to be done
-pub waiting-works : (guest : ℕ) (s : Scene) (job : Job) (given : Guest) → IsWaiting guest s job given → Rests (scope.Guest guest) s → ⊥
-waiting-works guest s job given waiting rests = by_outcome (outcome_of given job) refl
+-- so something is due that may want memory
+pub waiting-wants : (guest : ℕ) (s : Scene) (job : Job) (given : Guest) → IsWaiting guest s job given → IsWanting (scope.Guest guest) s
+waiting-wants guest s job given waiting = by_outcome (outcome_of given job) refl
   where
-    by_outcome : (o : Outcome Plan) → outcome_of given job ≡ o → ⊥
+    by_outcome : (o : Outcome Plan) → outcome_of given job ≡ o → IsWanting (scope.Guest guest) s
     by_outcome (Wanted addr len) e =
-        work-left (scope.Guest guest) s (event.List job.lane job.tag addr len) (waiting-list guest s job given addr len waiting e) rests
+        record { event = event.List job.lane job.tag addr len; work = waiting-list guest s job given addr len waiting e; wants = refl }
     by_outcome (Settled plan) e =
-        work-left (scope.Guest guest) s (event.Submit job.lane job.tag) (waiting-submit guest s job given plan waiting e) rests
+        record { event = event.Submit job.lane job.tag; work = waiting-submit guest s job given plan waiting e; wants = refl }
 
 pub some-job : (o : Option Job) → is_some o ≡ true → (job : Job) × (o ≡ Some job)
 some-job None is = absurd (true-false false is refl)

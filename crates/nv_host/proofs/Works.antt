@@ -7,7 +7,7 @@ use Rattle.nv_host.proofs.InRow.{give-by, leads-so, more-by, none-by, one-by, up
 use Rattle.nv_host.specs.InRow.{AreMadeBy}
 use Rattle.nv_host.specs.Passes.{MayGiveUp}
 use Rattle.nv_host.specs.Served.{IsNext, Served}
-use Rattle.nv_host.specs.Work.{GivesUp, HasEnded, IsDue, IsMade, IsOneMade, IsWork, Leads, LeadsUp, NotDue, Rests, Scene, scene}
+use Rattle.nv_host.specs.Work.{GivesUp, HasEnded, IsDue, IsMade, IsOneMade, IsWanting, IsWork, Leads, LeadsUp, NotDue, Rests, Scene, scene}
 use Rattle.nv_host.specs.declared.worked.Scope.{Scope}
 use Rattle.nv_host.specs.declared.worked.Scope.TheVariants as scope
 use Rattle.nv_host.specs.declared.worked.Why.{Why}
@@ -158,10 +158,13 @@ up-all sc count a b up =
       last = record { lane = last.lane; tag = last.tag; own = tt; waits = last.waits; reply = last.reply; made = last.made };
     }
 
+wanting-all : (sc : Scope) (s : Scene) → IsWanting sc s → IsWanting scope.All s
+wanting-all sc s is = record { event = is.event; work = record { own = tt; due_now = is.work.due_now }; wants = is.wants }
+
 pub ended-all : (sc : Scope) (most done : ℕ) (enough : Type 0) (y : Why) (a b : Scene) → HasEnded sc most done enough y a b
     → HasEnded scope.All most done enough y a b
 ended-all sc most done enough why.Enough a b ended = (leads-all sc done a b ended.0, ended.1, ended.2)
-ended-all sc most done enough why.Starved a b ended = (leads-all sc done a b ended.0, ended.1, λ rests. ended.2 (λ e own. rests e tt))
+ended-all sc most done enough why.Starved a b ended = (leads-all sc done a b ended.0, ended.1, wanting-all sc b ended.2)
 ended-all sc most done enough why.GaveUp a b ended = (up-all sc done a b ended.0, ended.1)
 ended-all sc most done enough (why.Stray lane) a b ended =
     (leads-all sc done a b ended.0, ended.1, record { own = tt; stray = ended.2.stray; unreached = ended.2.unreached })

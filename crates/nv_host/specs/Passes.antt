@@ -3,7 +3,7 @@ use Rattle.std.specs.Prelude.{◌≡◌, ℕ, true, slice_get, IsSome, Some}
 use Rattle.nv_core.specs.Jobs.{holder_in, job_in}
 use Rattle.nv_core.specs.Submit.{IsLimit}
 use Rattle.nv_core.specs.declared.holding.Holder.{Holder}
-use Rattle.nv_host.specs.Work.{HasEnded, IsIn, Leads, NotDue, Rests, Scene, Waits}
+use Rattle.nv_host.specs.Work.{HasEnded, IsIn, IsWanting, Leads, NotDue, Rests, Scene, Waits}
 use Rattle.nv_host.specs.declared.planning.GrantCopy.{GrantCopy}
 use Rattle.nv_host.specs.declared.planning.Stride.{Stride}
 use Rattle.nv_host.specs.declared.planning.Stride.TheVariants as stride
@@ -84,5 +84,5 @@ IsStride guest old before stride.Read new after = Leads (scope.Guest guest) 1 ol
 IsStride guest old before stride.Planned new after =
     (new ≡ old) × (after ≡ before) × ((plan : Plan) × (outcome_of before.given before.job ≡ Settled plan))
 IsStride guest old before stride.Starved new after = (new ≡ old) × (after ≡ before)
-IsStride guest old before stride.Full new after = (new ≡ old) × (Rests (scope.Guest guest) old → ⊥)
+IsStride guest old before stride.Full new after = (new ≡ old) × IsWanting (scope.Guest guest) old
 IsStride guest old before stride.Lost new after = Leads (scope.Guest guest) 1 old new

@@ -1,5 +1,5 @@
 -- What `HostMediator::work` does: what is due of a scope, event by event, until nothing is or as many were made as were asked for (profile).
-use Rattle.std.specs.Prelude.{◌≡◌, ◌<◌, ◌≤◌, ◌&&◌, ℕ, ⊤, Bool, true, List, slice_get, IsSome, Option, Some, None, option_map}
+use Rattle.std.specs.Prelude.{◌≡◌, ◌<◌, ◌≤◌, ◌&&◌, ℕ, ⊤, Bool, true, List, slice_get, IsSome, IsTrue, Option, Some, None, option_map}
 use Rattle.nv_core.specs.Front.{IsBeside, IsReaped}
 use Rattle.nv_core.specs.Jobs.{holder_in, job_in}
 use Rattle.nv_core.specs.Reaping.{answer_of, waits_in}
@@ -10,6 +10,7 @@ use Rattle.nv_host.specs.declared.worked.Scope.TheVariants as scope
 use Rattle.nv_host.specs.declared.worked.Why.{Why}
 use Rattle.nv_host.specs.declared.worked.Why.TheVariants as why
 use Rattle.nv_host.specs.declared.worked.Worked.{Worked}
+use Rattle.nv_mediator.specs.Hosted.{may_want}
 use Rattle.nv_model.specs.Transcript.{Settled, Wanted}
 use Rattle.nv_model.specs.declared.reply.Reply.{Reply}
 use Rattle.nv_plan.specs.Made.{outcome_of}
@@ -90,6 +91,12 @@ pub record IsWork (sc : Scope) (s : Scene) (e : Event) : Type 0 where
 abbrev pub Rests : Scope → Scene → Type 0
 Rests sc s = (e : Event) → IsIn sc s e → NotDue s e
 
+-- an event is due of that scope that may want memory: bytes of a command's list, or a command that is handed on. None of a lane's may
+pub record IsWanting (sc : Scope) (s : Scene) : Type 0 where
+  pub event : Event
+  pub work : IsWork sc s event
+  pub wants : IsTrue (may_want event)
+
 -- ---- what is done
 
 -- a completion of the drive was read: it is the next event of each log that leads there, and its part has ended whatever led there
@@ -132,11 +139,11 @@ pub record IsStray (sc : Scope) (s : Scene) (lane : ℕ) : Type 0 where
   pub stray : answer_of s.served.setup.geometry lane (slice_get s.served.side.lanes lane) s.memory ≡ None
   pub unreached : IsUnreached s.served s.memory
 
--- how a call ended after so many events: with enough, which says that much besides; without memory for what is left; after a command was given up,
+-- how a call ended after so many events: with enough, which says that much besides; without memory for what is left and may want some; after a command was given up,
 -- since there was no memory for its plan; or at a stray completion
 abbrev pub HasEnded : Scope → (most done : ℕ) → (enough : Type 0) → Why → (old new : Scene) → Type 0
 HasEnded sc most done enough why.Enough old new = Leads sc done old new × (done ≤ most) × enough
-HasEnded sc most done enough why.Starved old new = Leads sc done old new × (done < most) × (Rests sc new → ⊥)
+HasEnded sc most done enough why.Starved old new = Leads sc done old new × (done < most) × IsWanting sc new
 HasEnded sc most done enough why.GaveUp old new = LeadsUp sc done old new × (done ≤ most)
 HasEnded sc most done enough (why.Stray lane) old new = Leads sc done old new × (done < most) × IsStray sc new lane
 

@@ -1,10 +1,11 @@
 //! The interrupts that are pending, which a host delivers to its guests.
 
 ghost use Rattle.std.specs.Prelude.{◌≡◌, option_map, slice_get};
-ghost use Rattle.nv_model.specs.Controller.{pending};
+ghost use Rattle.nv_model.specs.Controller.{completion_queue, pending};
 
 use crate::host_mediator::HostMediator;
 use nv_model::limits::QUEUE_COUNT;
+use nv_vctl::CompletionQueue;
 
 impl HostMediator {
     /// The interrupt vectors that are pending for the guest of that number: at each place the vector that the completion queue of this number raises, where
@@ -13,5 +14,12 @@ impl HostMediator {
         ensures { result ≡ option_map pending (slice_get self.now.side.controllers guest) }
     {
         self.front.pending(guest)
+    }
+
+    /// Where the completion queue of that number stands of the guest of the other, where one is there; `None` where there is no such guest.
+    pub fn completion_queue(&self, guest: u8, queue: usize) -> Option<Option<CompletionQueue>>
+        ensures { result ≡ option_map (λ c. completion_queue c queue) (slice_get self.now.side.controllers guest) }
+    {
+        self.front.completion_queue(guest, queue)
     }
 }

@@ -47,7 +47,7 @@ impl Model for SubmissionQueue {
 /// A completion queue: where its first slot is in the guest's memory, its positions, the phase tag of its pass, and the interrupt vector
 /// of its completions, where its interrupts are enabled.
 #[derive(Clone, Copy, Debug, PartialEq, Eq)]
-pub(crate) struct CompletionQueue {
+pub struct CompletionQueue {
     pub(crate) base: u64,
     pub(crate) ring: Ring,
     pub(crate) phase: Phase,
@@ -162,6 +162,30 @@ impl CompletionQueue {
         map.holds(self.base, CQE_SIZE * u64::from(size_of(self.ring)))
     }
 
+    /// How many slots it has.
+    pub fn size(&self) -> u16
+        ensures { result ≡ self.now.size }
+    {
+        let slots = self.ring;
+        slots.size()
+    }
+
+    /// The slot of the oldest completion that the guest has not acknowledged.
+    pub fn head(&self) -> u16
+        ensures { result ≡ self.now.head }
+    {
+        let held = self.ring;
+        held.head()
+    }
+
+    /// The slot of the next completion.
+    pub fn tail(&self) -> u16
+        ensures { result ≡ self.now.tail }
+    {
+        let posted = self.ring;
+        posted.tail()
+    }
+
     /// Whether it is full.
     pub(crate) fn is_full(&self) -> bool
         ensures { result ≡ is_full self.now.size self.now.head self.now.tail }
@@ -170,14 +194,14 @@ impl CompletionQueue {
     }
 
     /// The vector that it raises: that of its completions, where some are not acknowledged and its interrupts are enabled.
-    pub(crate) fn raised(&self) -> Option<u16>
+    pub fn raised(&self) -> Option<u16>
         ensures { result ≡ raised (Some self.now) }
     {
         if self.ring.empty() { None } else { self.vector }
     }
 
     /// The phase tag of this pass.
-    pub(crate) fn phase(&self) -> bool
+    pub fn phase(&self) -> bool
         ensures { result ≡ self.now.phase }
     {
         self.phase.expected()

@@ -242,8 +242,8 @@ impl Vctl {
         self.submission.get(queue).copied().flatten()
     }
 
-    /// The completion queue of a number.
-    pub(crate) fn completion_queue(&self, queue: usize) -> Option<CompletionQueue>
+    /// The completion queue of a number; `None` where none is there.
+    pub fn completion_queue(&self, queue: usize) -> Option<CompletionQueue>
         ensures { result ≡ completion_queue self.now queue }
     {
         self.completion.get(queue).copied().flatten()

@@ -1,6 +1,7 @@
 #![forbid(unsafe_code)]
 //! The interrupts of a guest.
 
+use crate::sys;
 use std::fmt;
 
 /// The most vectors of a guest: one of each of its completion queues, the admin queue's among them.
@@ -57,6 +58,15 @@ impl Vectors {
     }
 }
 
+impl FromIterator<u16> for Vectors {
+    /// The first [`VECTORS`] of these.
+    fn from_iter<I: IntoIterator<Item = u16>>(all: I) -> Self {
+        let mut vectors = Vectors::new();
+        all.into_iter().for_each(|vector| vectors.push(vector));
+        vectors
+    }
+}
+
 impl PartialEq for Vectors {
     fn eq(&self, other: &Self) -> bool {
         self.as_slice() == other.as_slice()
@@ -80,11 +90,15 @@ impl<'a> IntoIterator for &'a Vectors {
     }
 }
 
-/// What a caller of [`Mediator::posted`](crate::Mediator::posted) has seen of all guests: nothing at first. It is used with one mediator.
+/// What a caller of [`Mediator::posted`](crate::Mediator::posted) has seen of the guests: where their completion queues stood. It is used with one mediator,
+/// for one guest or for all.
 #[derive(Debug, Clone, Default)]
 pub struct Seen {
-    pub(crate) guests: [[u64; VECTORS]; GUESTS],
+    guests: [Standings; GUESTS],
 }
+
+/// Where the completion queues of a guest stood: all zero at first.
+pub(crate) type Standings = [sys::Standing; VECTORS];
 
 impl Seen {
     /// Nothing was seen yet.
@@ -92,16 +106,9 @@ impl Seen {
         Self::default()
     }
 
-    /// What was seen of a guest's queues.
-    pub(crate) fn of(&self, guest: u32) -> [u64; VECTORS] {
-        self.guests.get(guest as usize).copied().unwrap_or_default()
-    }
-
-    /// Keeps what was seen of a guest's queues.
-    pub(crate) fn keep(&mut self, guest: u32, queues: [u64; VECTORS]) {
-        if let Some(own) = self.guests.get_mut(guest as usize) {
-            *own = queues;
-        }
+    /// What was seen of a guest; `None` where there can be no such guest.
+    pub(crate) fn of(&mut self, guest: u32) -> Option<&mut Standings> {
+        self.guests.get_mut(guest as usize)
     }
 }
 

@@ -15,7 +15,7 @@ pub struct Version {
 
 impl Version {
     /// What this crate was written for: it works over a library with this major number, and this minor number or a higher one.
-    pub const WANTED: Version = Version { major: 2, minor: 2 };
+    pub const WANTED: Version = Version { major: 2, minor: 3 };
 
     /// The version of the library that is linked.
     pub fn of_library() -> Version {

@@ -2,7 +2,7 @@
 
 use crate::error::status;
 use crate::event::{Event, Scope, Work, WorkEnd};
-use crate::interrupts::{Seen, Vectors, VECTORS};
+use crate::interrupts::{Seen, Standings, Vectors, VECTORS};
 use crate::library::Version;
 use crate::memory::HostMemory;
 use crate::rings::Rings;
@@ -41,8 +41,6 @@ pub struct Mediator<M: HostMemory> {
     // in this order: the library is done with the memory before that goes
     lent: Lent,
     memory: M,
-    // how many calls may have changed a completion queue of a guest
-    changes: u64,
 }
 
 impl<M: HostMemory> Mediator<M> {
@@ -93,11 +91,7 @@ impl<M: HostMemory> Mediator<M> {
             )
         };
         Error::check(answer)?;
-        Ok(Mediator {
-            lent,
-            memory,
-            changes: 1,
-        })
+        Ok(Mediator { lent, memory })
     }
 
     /// The memory that was lent.
@@ -107,7 +101,7 @@ impl<M: HostMemory> Mediator<M> {
 
     /// Ends the mediator, and gives the memory back.
     pub fn end(self) -> M {
-        let Mediator { lent, memory, .. } = self;
+        let Mediator { lent, memory } = self;
         drop(lent);
         memory
     }
@@ -135,7 +129,6 @@ impl<M: HostMemory> Mediator<M> {
         let lent = &mut self.lent;
         // SAFETY: the handle holds a mediator and has one caller; the memory that is lent is there (`serve`).
         let answer = unsafe { sys::nvmed_raw_reg_write(&mut lent.handle, guest, offset, value, lent.base, lent.bytes) };
-        self.changes += 1;
         Error::check(answer)
     }
 
@@ -149,7 +142,6 @@ impl<M: HostMemory> Mediator<M> {
         let lent = &mut self.lent;
         // SAFETY: as in `reg_write`.
         let answer = unsafe { sys::nvmed_raw_doorbell(&mut lent.handle, guest, offset, value, lent.base, lent.bytes) };
-        self.changes += 1;
         Error::check(answer)
     }
 
@@ -165,9 +157,6 @@ impl<M: HostMemory> Mediator<M> {
         // SAFETY: as in `reg_read`.
         let answer =
             unsafe { sys::nvmed_raw_work(&mut lent.handle, kind, number, most, &mut done, lent.base, lent.bytes) };
-        if done != 0 {
-            self.changes += 1;
-        }
         let end = match answer {
             status::OK | status::NO_SUCH => WorkEnd::Done,
             status::NO_MEMORY => WorkEnd::OutOfMemory,
@@ -189,7 +178,6 @@ impl<M: HostMemory> Mediator<M> {
         let lent = &mut self.lent;
         // SAFETY: the handle holds a mediator and has one caller; `event` is a local; the memory that is lent is there (`serve`).
         let answer = unsafe { sys::nvmed_raw_step(&mut lent.handle, &event, lent.base, lent.bytes) };
-        self.changes += 1;
         Error::check(answer)
     }
 
@@ -228,59 +216,41 @@ impl<M: HostMemory> Mediator<M> {
     pub fn pending(&mut self, guest: u32) -> Result<Vectors, Error> {
         let mut vectors = Vectors::new();
         for queue in 0..VECTORS as u32 {
-            if let Some(vector) = self.raised(guest, queue)? {
-                vectors.push(vector);
+            let mut vector = 0;
+            // SAFETY: the handle holds a mediator and has one caller; `vector` is a local.
+            let answer = unsafe { sys::nvmed_raw_pending(&mut self.lent.handle, guest, queue, &mut vector) };
+            match answer {
+                // the library gives vectors of 16 bits
+                status::OK => vectors.push(vector as u16),
+                status::IDLE => {}
+                other => Error::check(other)?,
             }
         }
         Ok(vectors)
     }
 
-    /// The vector that a completion queue of a guest raises, 0 to 8.
-    fn raised(&mut self, guest: u32, queue: u32) -> Result<Option<u16>, Error> {
-        let mut vector = 0;
-        // SAFETY: the handle holds a mediator and has one caller; `vector` is a local.
-        let answer = unsafe { sys::nvmed_raw_pending(&mut self.lent.handle, guest, queue, &mut vector) };
-        match answer {
-            // the library gives vectors of 16 bits
-            status::OK => Ok(Some(vector as u16)),
-            status::IDLE => Ok(None),
-            other => Err(Error::check(other).err().unwrap_or(Error::Unknown(other))),
-        }
-    }
-
-    /// The vectors of a guest for which a message is to be sent (MSI-X): those that are pending, of completion queues to which something happened since
-    /// this was asked last with the same `seen`: a completion was posted, or the guest acknowledged some and not all. A message too many does no harm;
-    /// none is left out.
+    /// The vectors of a guest for which a message is to be sent (MSI-X): those that are pending, of completion queues that stand elsewhere than when this was
+    /// asked last with the same `seen`. Completions were posted there since, the guest has acknowledged some and others are left, or the queue was made anew.
+    ///
+    /// A host calls it for each guest after each [`work`](Self::work) and [`step`](Self::step), and for the guest after its [`doorbell`](Self::doorbell) and
+    /// [`reg_write`](Self::reg_write), before the next of these calls. Then no completion is without a message. Without a call between two of them, a queue
+    /// that stands as before may have had completions.
     ///
     /// # Errors
     ///
     /// As of [`pending`](Self::pending); `seen` is as it was then.
     pub fn posted(&mut self, guest: u32, seen: &mut Seen) -> Result<Vectors, Error> {
-        let marks = self.marks(guest);
-        let mut vectors = Vectors::new();
-        let mut own = seen.of(guest);
-        for (queue, (mark, last)) in (0..).zip(marks.into_iter().zip(&mut own)) {
-            if let Some(vector) = self.raised(guest, queue)? {
-                if mark != *last {
-                    vectors.push(vector);
-                }
-            }
-            *last = mark;
-        }
-        seen.keep(guest, own);
-        Ok(vectors)
-    }
-
-    /// A number of each completion queue of a guest that changes where something happened to it.
-    #[cfg(not(feature = "stub"))]
-    fn marks(&self, _guest: u32) -> [u64; VECTORS] {
-        [self.changes; VECTORS]
-    }
-
-    /// The same of the stub, which counts for each queue.
-    #[cfg(feature = "stub")]
-    fn marks(&self, guest: u32) -> [u64; VECTORS] {
-        self.stub().changes(guest)
+        let mut none = Standings::default();
+        let standings = seen.of(guest).unwrap_or(&mut none);
+        let mut told = [0; VECTORS];
+        let (queues, room) = (standings.as_mut_ptr(), told.as_mut_ptr());
+        let handle = &mut self.lent.handle;
+        // SAFETY: the handle holds a mediator and has one caller; `standings` and `told` have nine members each, and are the caller's and a local.
+        let answer = unsafe { sys::nvmed_raw_posted(handle, guest, queues, VECTORS, room, VECTORS) };
+        Error::check(answer)?;
+        // a vector counts from 1 here, and 0 is none
+        let raised = told.iter().filter_map(|vector| vector.checked_sub(1));
+        Ok(raised.map(|vector| vector as u16).collect())
     }
 
     /// Gives a guest a share of `tags` of each lane's 64 tags. At the start each guest has one tag for each of its extents, and an equal part of those
@@ -305,7 +275,6 @@ impl<M: HostMemory> Mediator<M> {
         let lent = &mut self.lent;
         // SAFETY: the handle holds a mediator and has one caller; the memory that is lent is there (`serve`).
         let answer = unsafe { sys::nvmed_raw_close(&mut lent.handle, lane, lent.base, lent.bytes) };
-        self.changes += 1;
         Error::check(answer)
     }
 

@@ -70,6 +70,16 @@ pub(crate) struct LaneRings {
     pub(crate) closed: u32,
 }
 
+/// `nvmed_standing`.
+#[repr(C)]
+#[derive(Debug, Clone, Copy, Default, PartialEq, Eq)]
+pub(crate) struct Standing {
+    pub(crate) size: u16,
+    pub(crate) tail: u16,
+    pub(crate) head: u16,
+    pub(crate) phase: u16,
+}
+
 #[cfg(feature = "stub")]
 pub(crate) use crate::stub::calls::*;
 
@@ -150,6 +160,14 @@ extern "C" {
     ) -> u32;
     pub(crate) fn nvmed_raw_rings(handle: *mut Handle, lane: u32, rings: *mut LaneRings) -> u32;
     pub(crate) fn nvmed_raw_pending(handle: *mut Handle, guest: u32, queue: u32, vector: *mut u32) -> u32;
+    pub(crate) fn nvmed_raw_posted(
+        handle: *mut Handle,
+        guest: u32,
+        seen: *mut Standing,
+        queues: usize,
+        vectors: *mut u32,
+        count: usize,
+    ) -> u32;
     pub(crate) fn nvmed_raw_share(handle: *mut Handle, guest: u32, tags: u32) -> u32;
     pub(crate) fn nvmed_raw_close(handle: *mut Handle, lane: u32, memory: *mut u8, bytes: usize) -> u32;
 }

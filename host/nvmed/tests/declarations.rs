@@ -26,6 +26,7 @@ fn in_rust(c: &str) -> String {
     }
     let name = match words[0] {
         "uint8_t" => "u8",
+        "uint16_t" => "u16",
         "uint32_t" => "u32",
         "uint64_t" => "u64",
         "size_t" => "usize",
@@ -36,6 +37,7 @@ fn in_rust(c: &str) -> String {
         "nvmed_extent" => "Extent",
         "nvmed_event" => "Event",
         "nvmed_lane_rings" => "LaneRings",
+        "nvmed_standing" => "Standing",
         other => other,
     };
     match (stars, shared) {
@@ -85,21 +87,34 @@ fn functions_have_the_parameters_of_the_header() {
     assert_eq!(of_rust(STUB, "pub(crate) unsafe fn nvmed_raw_"), ours, "the stub's");
 }
 
-/// The members of a struct, with their types.
-fn members(text: &str, of_c: bool) -> Vec<(String, String)> {
+/// The members of a struct of the header, with their types.
+fn of_c(text: &str) -> Vec<(String, String)> {
     let lines = text
         .lines()
         .map(|line| line.split("/*").next().unwrap_or_default().trim());
     let typed = |line: &str| {
-        if of_c {
-            let (kind, name) = line.strip_suffix(';')?.rsplit_once([' ', '*'])?;
-            let star = if line.contains('*') { "*" } else { "" };
-            return Some((name.to_string(), in_rust(&format!("{kind}{star}"))));
-        }
-        let (name, kind) = line.strip_prefix("pub(crate) ")?.strip_suffix(',')?.split_once(": ")?;
+        let (kind, names) = line.strip_suffix(';')?.split_once(' ')?;
+        let of = |name: &str| {
+            let stars = name.matches('*').count();
+            let kind = in_rust(&format!("{kind} {}", "*".repeat(stars)));
+            (name.trim_matches([' ', '*']).to_string(), kind)
+        };
+        Some(names.split(',').map(of).collect::<Vec<_>>())
+    };
+    lines.filter_map(typed).flatten().collect()
+}
+
+/// The members of a struct of this crate, with their types.
+fn of_ours(text: &str) -> Vec<(String, String)> {
+    let typed = |line: &str| {
+        let (name, kind) = line
+            .trim()
+            .strip_prefix("pub(crate) ")?
+            .strip_suffix(',')?
+            .split_once(": ")?;
         Some((name.to_string(), kind.to_string()))
     };
-    lines.filter_map(typed).collect()
+    text.lines().filter_map(typed).collect()
 }
 
 #[test]
@@ -111,12 +126,13 @@ fn structs_have_the_members_of_the_header() {
         ("nvmed_extent", "Extent", 3),
         ("nvmed_event", "Event", 11),
         ("nvmed_lane_rings", "LaneRings", 6),
+        ("nvmed_standing", "Standing", 4),
     ];
     for (c, rust, count) in structs {
         let wanted = between(HEADER, &format!("typedef struct {c} {{\n"), "\n}").unwrap();
         let own = between(SYS, &format!("pub(crate) struct {rust} {{\n"), "\n}").unwrap();
-        assert_eq!(members(own, false), members(wanted, true), "{c}");
-        assert_eq!(members(own, false).len(), count, "{c}");
+        assert_eq!(of_ours(own), of_c(wanted), "{c}");
+        assert_eq!(of_ours(own).len(), count, "{c}");
     }
 }
 

@@ -106,9 +106,19 @@ fn vectors_are_pending_until_they_are_acknowledged_and_posted_once() {
     first.send(&mut m, 0x02, 1, 1);
     run(&mut m, &mut drive);
     assert_eq!(m.posted(0, &mut seen).unwrap().as_slice(), [VECTOR]);
+    // and so is what is left after the guest has acknowledged some
+    m.doorbell(0, 0x100c, 1).unwrap();
+    assert_eq!(m.posted(0, &mut seen).unwrap().as_slice(), [VECTOR]);
     first.acknowledge(&mut m);
     assert!(m.pending(0).unwrap().is_empty());
     assert!(m.posted(0, &mut seen).unwrap().is_empty());
+    // a queue that was made anew is another one
+    m.reg_write(0, 0x14, 0).unwrap();
+    first.bring_up(&mut m);
+    first.send(&mut m, 0x02, 0, 1);
+    run(&mut m, &mut drive);
+    assert_eq!(m.posted(0, &mut Seen::new()).unwrap().as_slice(), [VECTOR]);
+    assert_eq!(m.posted(0, &mut seen).unwrap().as_slice(), [VECTOR]);
 }
 
 #[test]

@@ -161,21 +161,28 @@ impl Guest {
     /// Enables the controller and creates an I/O queue pair with vector 1.
     pub fn bring_up(&mut self) -> io::Result<()> {
         self.enable()?;
-        let size = (ENTRIES - 1) << 16 | 1;
-        let (submission, completion) = (0x2_0000, 0x2_1000);
-        let created = self.admin(5, completion, [size, 1 << 16 | 3, 0])?;
+        self.create_pair().map(|_| ())
+    }
+
+    /// Creates the next I/O queue pair, whose vector has its number: that number.
+    pub fn create_pair(&mut self) -> io::Result<usize> {
+        let number = self.queues.len();
+        let submission = 0x2_0000 + 0x2000 * (number as u64 - 1);
+        self.memory.write(submission, &[0; 0x2000])?;
+        let word = number as u32;
+        let size = (ENTRIES - 1) << 16 | word;
+        let created = self.admin(5, submission + 0x1000, [size, word << 16 | 3, 0])?;
         assert_eq!(created.status, 0, "a completion queue");
-        let created = self.admin(1, submission, [size, 1 << 16 | 1, 0])?;
+        let created = self.admin(1, submission, [size, word << 16 | 1, 0])?;
         assert_eq!(created.status, 0, "a submission queue");
         self.queues.push(Queue::at(submission));
-        Ok(())
+        Ok(number)
     }
 
     /// Enables the controller, with an admin queue.
     pub fn enable(&mut self) -> io::Result<()> {
         self.await_ready(0)?;
         self.memory.write(0x1_0000, &[0; 0x2000])?;
-        self.memory.write(0x2_0000, &[0; 0x2000])?;
         self.queues = vec![Queue::at(0x1_0000)];
         for (offset, value) in [
             (0x24, (ENTRIES - 1) << 16 | (ENTRIES - 1)),
@@ -196,16 +203,21 @@ impl Guest {
 
     /// Puts a command into a queue without ringing its doorbell. Its identifier.
     pub fn put(&mut self, queue: usize, opcode: u8, prp1: u64, words: [u32; 3]) -> io::Result<u16> {
-        self.next = self.next.wrapping_add(1);
-        let id = self.next;
         let mut entry = [0; 64];
         entry[0] = opcode;
-        entry[2..4].copy_from_slice(&id.to_le_bytes());
         entry[4] = u8::from(queue != 0 || opcode == 6);
         entry[24..32].copy_from_slice(&prp1.to_le_bytes());
         for (place, word) in entry[40..].chunks_exact_mut(4).zip(words) {
             place.copy_from_slice(&word.to_le_bytes());
         }
+        self.put_entry(queue, entry)
+    }
+
+    /// Puts any entry into a queue, with the next identifier, which is the result.
+    pub fn put_entry(&mut self, queue: usize, mut entry: [u8; 64]) -> io::Result<u16> {
+        self.next = self.next.wrapping_add(1);
+        let id = self.next;
+        entry[2..4].copy_from_slice(&id.to_le_bytes());
         let q = &mut self.queues[queue];
         self.memory.write(q.submission + 64 * u64::from(q.tail), &entry)?;
         q.tail = (q.tail + 1) % ENTRIES;
@@ -216,7 +228,12 @@ impl Guest {
     pub fn ring(&mut self, queue: usize, completions: bool) -> io::Result<()> {
         let q = &self.queues[queue];
         let value = if completions { q.head } else { q.tail };
-        let offset = 0x1000 + 4 * (2 * queue as u64 + u64::from(completions));
+        self.bell(2 * queue as u64 + u64::from(completions), value)
+    }
+
+    /// Writes any doorbell, numbered from 0.
+    pub fn bell(&mut self, number: u64, value: u32) -> io::Result<()> {
+        let offset = 0x1000 + 4 * number;
         match &self.page {
             Some(page) => page.write_all_at(&value.to_le_bytes(), offset),
             None => self.client.post_u32(BAR0, offset, value),

@@ -8,10 +8,10 @@ use super::state::{Shared, State};
 use super::{refusals, Call};
 use crate::error::status;
 use crate::setup::Lists;
-use crate::sys::{Event, Extent, Handle, LaneRings, Region, Sizes};
+use crate::sys::{Event, Extent, Handle, LaneRings, Region, Sizes, Standing};
 use crate::{Event as Made, Scope, Version, WorkEnd};
 use std::ptr::null_mut;
-use std::slice::from_raw_parts;
+use std::slice::{from_raw_parts, from_raw_parts_mut};
 use std::sync::{Arc, Mutex, PoisonError};
 
 /// The numbers that the library tells from those of guests and lanes that are not there.
@@ -297,6 +297,25 @@ pub(crate) unsafe fn nvmed_raw_pending(handle: *mut Handle, guest: u32, queue: u
         Some(None) => status::IDLE,
         None => accessed(guest, false),
     }
+}
+
+pub(crate) unsafe fn nvmed_raw_posted(
+    handle: *mut Handle,
+    guest: u32,
+    seen: *mut Standing,
+    queues: usize,
+    vectors: *mut u32,
+    count: usize,
+) -> u32 {
+    // SAFETY: the caller has these lists.
+    let (seen, vectors) = unsafe { (from_raw_parts_mut(seen, queues), from_raw_parts_mut(vectors, count)) };
+    with(handle, |state| match state.guests.get(guest as usize) {
+        Some(own) => {
+            own.posted(seen, vectors);
+            status::OK
+        }
+        None => accessed(guest, false),
+    })
 }
 
 pub(crate) unsafe fn nvmed_raw_share(handle: *mut Handle, guest: u32, tags: u32) -> u32 {

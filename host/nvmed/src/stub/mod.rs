@@ -153,16 +153,6 @@ impl Control {
         self.state().guests.iter().map(|guest| guest.share).collect()
     }
 
-    /// How often each completion queue of a guest has changed.
-    pub(crate) fn changes(&self, guest: u32) -> [u64; crate::VECTORS] {
-        let state = self.state();
-        state
-            .guests
-            .get(guest as usize)
-            .map(|guest| guest.changes)
-            .unwrap_or_default()
-    }
-
     /// Whether the mediator was freed.
     pub fn is_freed(&self) -> bool {
         self.state().freed

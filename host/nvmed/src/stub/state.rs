@@ -36,6 +36,25 @@ pub(super) struct Guest {
     pub(super) regions: Vec<(u64, u64, u64)>,
 }
 
+impl Guest {
+    /// Of each queue that has changed since it was seen the vector that is pending, counted from 1; and keeps what is there.
+    pub(super) fn posted(&self, seen: &mut [sys::Standing], vectors: &mut [u32]) {
+        let queues = self.changes.iter().zip(&self.pending);
+        for ((changes, pending), (last, vector)) in queues.zip(seen.iter_mut().zip(vectors)) {
+            let [size, tail, head, phase] = [0, 16, 32, 48].map(|from| (changes >> from) as u16);
+            let now = sys::Standing {
+                size,
+                tail,
+                head,
+                phase,
+            };
+            let news = pending.filter(|_| now != *last);
+            *vector = news.map_or(0, |raised| u32::from(raised) + 1);
+            *last = now;
+        }
+    }
+}
+
 #[derive(Debug)]
 pub(super) struct State {
     pub(super) guests: Vec<Guest>,

@@ -1,9 +1,9 @@
-use Rattle.nv_c.proofs.Readings.{stride-made, stride-read, waiting-works}
+use Rattle.nv_c.proofs.Readings.{stride-made, stride-read, waiting-wants}
 use Rattle.nv_c.proofs.reading.read_next.Goals as goal
 
 pub returns-in_default : goal.returns-in_default
 returns-in_default c =
-    (c.in_default.ensures.err.0, waiting-works c.args._scope c.args.mediator.now c.args.planning.now.job c.args.planning.now.given c.requires)
+    (c.in_default.ensures.err.0, waiting-wants c.args._scope c.args.mediator.now c.args.planning.now.job c.args.planning.now.given c.requires)
 
 pub returns-in_default-reply : goal.returns-in_default-reply
 returns-in_default-reply c =

@@ -1,5 +1,5 @@
 use Rattle.std.proofs.Common.{◌≡◌, ◌∙◌, refl, subst, sym, Some}
-use Rattle.nv_c.proofs.Readings.{waiting-guest, waiting-works}
+use Rattle.nv_c.proofs.Readings.{waiting-guest, waiting-wants}
 use Rattle.nv_c.proofs.Rests.{given-there, holder-given, some-job}
 use Rattle.nv_c.specs.Work.{IsWaiting}
 use Rattle.nv_c.specs.declared.working.Scope.TheVariants as scope
@@ -26,7 +26,7 @@ returns-in_default c =
     let h = c.args.mediator.now in
     let some = some-job (job_of (hosted_world h) c.args.lane c.args.tag) c.in_default.ensures.err in
     let given = given-there h.geometry (hosted_world h) c.promise.ensures.consistent c.args.lane c.args.tag some.0 some.1 in
-    waiting-works (scope.Guest c.args.guest) h some.0 given.0 (waiting-guest h c.args.guest c.args.lane c.args.tag some.0 given.0 c.requires some.1 given.1)
+    waiting-wants (scope.Guest c.args.guest) h some.0 given.0 (waiting-guest h c.args.guest c.args.lane c.args.tag some.0 given.0 c.requires some.1 given.1)
 
 pub given_to-limit-requires : goal.given_to-limit-requires
 given_to-limit-requires c =

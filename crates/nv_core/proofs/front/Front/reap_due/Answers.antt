@@ -1,4 +1,4 @@
-use Rattle.std.proofs.Common.{◌≡◌, ℕ, ◌+◌, ◌<◌, ◌^◌, ◌∙◌, List, Some, length, slice_get, ap, subst, sym, arith}
+use Rattle.std.proofs.Common.{◌≡◌, refl, ℕ, ◌+◌, ◌<◌, ◌^◌, ◌∙◌, List, Some, length, slice_get, ap, subst, sym, arith}
 use Rattle.nv_core.proofs.Besides.{beside-due, undue-none}
 use Rattle.nv_core.proofs.GroupWorlds.{looked-up}
 use Rattle.nv_core.proofs.ReapAnswers.{waits-told}
@@ -22,8 +22,8 @@ completion_slot-slot-requires-clause-area g c =
     let at = c.from-at.ensures in
     subst (λ (n : ℕ). lane_start n (c.args.lane + 1) < 2 ^ 64) (sym c.mediator.ensures) (omega (arith, area, size, few, at, below))
 
-pub completion_at-requires : goal.completion_at-requires
-completion_at-requires g c = λ some.
+pub last_dword_at-last-requires : goal.last_dword_at-last-requires
+last_dword_at-last-requires g c = λ some.
     let m : List ℕ = g.C.MemoryCell.bytes c.args.host.now in
     let side : Side = record { lanes = c.self.inside.lanes.items; tails = c.self.inside.tails.items; controllers = c.self.inside.controllers.items } in
     let lent : IsLent c.args.layout.now side m = subst (λ (f : Side). IsLent c.args.layout.now f m) (sym c.self.view_is) c.requires in
@@ -34,6 +34,9 @@ completion_at-requires g c = λ some.
     let slot = c.completion_slot-slot.ensures in
     let low = c.head.ensures.fits in
     omega (arith, area, at, below, begins, slot, low)
+
+pub phase_in-requires : goal.phase_in-requires
+phase_in-requires g c = c.last_dword_at-last.ensures
 
 pub returns-clause-answer : goal.returns-clause-answer
 returns-clause-answer g c =
@@ -46,8 +49,8 @@ returns-clause-answer g c =
     let at_head : c.completion_slot-slot.result ≡ completion_slot c.args.layout.now.mediator c.args.lane l.head =
     c.completion_slot-slot.ensures ∙ ap (λ (n : ℕ). completion_slot n c.args.lane c.head.result) c.mediator.ensures
     ∙ ap (completion_slot c.args.layout.now.mediator c.args.lane) c.head.ensures.value in
-    waits-told c.args.layout.now c.args.lane c.args.self.now.lanes l m c.completion_at.result there
-    (c.completion_at.ensures ∙ ap (λ (a : ℕ). bytes_from (byte_in m) a cqe_size) at_head) c.phase.result c.wanted_phase.result c.phase.ensures
+    waits-told c.args.layout.now c.args.lane c.args.self.now.lanes l m (bytes_from (byte_in m) c.completion_slot-slot.result cqe_size) there
+    (ap (λ (a : ℕ). bytes_from (byte_in m) a cqe_size) at_head) c.phase_in.result c.wanted_phase.result c.phase_in.ensures
     c.wanted_phase.ensures
 
 pub returns-then-at-len-clause-beside : goal.returns-then-at-len-clause-beside
@@ -69,4 +72,4 @@ returns-clause-beside g c = λ w on0 live.
     beside-due c.args.layout.now side m w on live lent.laid_out c.args.lane c.from-at.result c.index-ring.result.now c.from-at.ensures below c.index-ring.ensures
     c.head.result c.completion_slot-slot.result c.head.ensures.value
     (c.completion_slot-slot.ensures ∙ ap (λ (n : ℕ). completion_slot n c.args.lane c.head.result) c.mediator.ensures)
-    c.completion_at.result c.completion_at.ensures c.phase.result c.wanted_phase.result c.phase.ensures c.wanted_phase.ensures
+    (bytes_from (byte_in m) c.completion_slot-slot.result cqe_size) refl c.phase_in.result c.wanted_phase.result c.phase_in.ensures c.wanted_phase.ensures

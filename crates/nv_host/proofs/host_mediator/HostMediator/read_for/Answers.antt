@@ -1,6 +1,6 @@
 use Rattle.std.proofs.Common.{◌≡◌, ◌∙◌, ap, refl, slice_get, Some, sym}
 use Rattle.nv_core.specs.Jobs.{job_in}
-use Rattle.nv_host.proofs.Readings.{job-guest, some-job, waiting-guest, waiting-works}
+use Rattle.nv_host.proofs.Readings.{job-guest, some-job, waiting-guest, waiting-wants}
 use Rattle.nv_host.proofs.Rests.{no-job}
 use Rattle.nv_host.proofs.Rounds.{pass-none, pass-some}
 use Rattle.nv_host.proofs.Works.{leads_none}
@@ -39,5 +39,5 @@ returns-in-Err-clause-pass g c =
     ap (slice_get c.args.self.now.setup.geometry.guests) (job-guest a c.args.guest c.args.lane c.args.tag some.0 c.requires.own some.1) ∙ there.1 in (
       leads_none (scope.Guest c.args.guest) a a refl,
       c.requires.some,
-      waiting-works c.args.guest a some.0 there.0 (waiting-guest a c.args.guest c.args.lane c.args.tag some.0 there.0 c.requires.own some.1 its),
+      waiting-wants c.args.guest a some.0 there.0 (waiting-guest a c.args.guest c.args.lane c.args.tag some.0 there.0 c.requires.own some.1 its),
     )

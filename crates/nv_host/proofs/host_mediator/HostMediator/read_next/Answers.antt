@@ -1,5 +1,5 @@
 use Rattle.std.proofs.Common.{ap}
-use Rattle.nv_host.proofs.Readings.{stride-made, stride-read, waiting-works}
+use Rattle.nv_host.proofs.Readings.{stride-made, stride-read, waiting-wants}
 use Rattle.nv_host.specs.Served.{Served}
 use Rattle.nv_host.specs.Work.{scene}
 use Rattle.nv_host.proofs.host_mediator.HostMediator.read_next.Goals as goal
@@ -7,7 +7,7 @@ use Rattle.nv_host.proofs.host_mediator.HostMediator.read_next.Goals as goal
 pub returns-in_default-clause-stride : goal.returns-in_default-clause-stride
 returns-in_default-clause-stride g c = (
   ap (λ (x : Served). scene x (g.C.MemoryCell.bytes c.args.memory.now)) c.in_default.ensures.err,
-  waiting-works c.args._guest (scene c.args.self.now (g.C.MemoryCell.bytes c.args.memory.now)) c.args.planning.now.job c.args.planning.now.given c.requires.reading,
+  waiting-wants c.args._guest (scene c.args.self.now (g.C.MemoryCell.bytes c.args.memory.now)) c.args.planning.now.job c.args.planning.now.given c.requires.reading,
 )
 
 pub returns-in_default-reply-clause-stride : goal.returns-in_default-reply-clause-stride

@@ -2,7 +2,7 @@ use Rattle.std.proofs.Common.{◌≡◌, ◌∙◌, ◌+◌, sym, subst, refl, a
 use Rattle.nv_host.proofs.Readings.{reading-may, reading-same}
 use Rattle.nv_host.proofs.Rounds.{after-fits, pass-after, pass-far}
 use Rattle.nv_host.proofs.Works.{leads_more, leads_none}
-use Rattle.nv_host.specs.Work.{Leads, Rests, Scene, scene}
+use Rattle.nv_host.specs.Work.{IsWanting, Leads, Scene, scene}
 use Rattle.nv_host.specs.declared.worked.Scope.TheVariants as scope
 use Rattle.nv_host.proofs.host_mediator.HostMediator.read_on.Goals as goal
 
@@ -73,7 +73,7 @@ returns-in-Full-clause-pass g c =
     let same = c.in-Full.ensures.stride.0 in (
       subst (λ (x : Scene). Leads (scope.Guest c.args.guest) c.loop-done.done a x) (sym same) c.loop-done.invariant.leads,
       c.loop-done-test.true,
-      λ rests. c.in-Full.ensures.stride.1 (subst (λ (x : Scene). Rests (scope.Guest c.args.guest) x) same rests),
+      subst (λ (x : Scene). IsWanting (scope.Guest c.args.guest) x) (sym same) c.in-Full.ensures.stride.1,
     )
 
 pub returns-in-Lost-clause-pass : goal.returns-in-Lost-clause-pass
