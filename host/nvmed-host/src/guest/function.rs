@@ -5,8 +5,6 @@
 use std::os::fd::OwnedFd;
 use std::sync::Arc;
 
-use nix::errno::Errno;
-
 use crate::doorbells::{Page, PAGE_BYTES};
 use crate::interrupts::{InterruptError, Interrupts, Signals, VECTORS};
 use crate::mediation::mailbox::{Access, Gone, Sender};
@@ -325,7 +323,5 @@ fn chosen(data: &IrqData, place: u32) -> bool {
     }
 }
 
-/// The error of a reply.
-pub fn errno(_error: &InterruptError) -> Errno {
-    Errno::EINVAL
-}
+#[cfg(test)]
+mod tests;
