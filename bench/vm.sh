@@ -23,7 +23,7 @@
 # A current QEMU and Debian's kernels are fetched and unpacked, once, into VM_CACHE (else ~/.cache/nvmed-vm); they need not be of this system's own release.
 # Debian's busybox-static, cpio, kmod, xz-utils, nvme-cli, fio, e2fsprogs and xfsprogs, and for firmware ovmf, mtools and dosfstools are installed where they are
 # missing, and named. The library is taken from NVMED_PREFIX where that is set; else it is built, of LIBRARY if that is set, as bench/c.sh does. Once that is there,
-# each run but hour ends by itself within ten minutes. The last line is 'N passed, M failed', and the status is 0 where M is 0.
+# each run but hour ends by itself within ten minutes, or VM_LIMIT seconds. The last line is 'N passed, M failed', and the status is 0 where M is 0.
 set -euo pipefail
 export LC_ALL=C
 top=$(dirname "$(dirname "$(readlink -f "$0")")")
@@ -37,8 +37,8 @@ accelerator=tcg
 wrapper=()
 program=$top/host/target/release/nvmed-host
 live=$top/host/target/release/examples/guest_live
-# of a run, in seconds
-limit=600
+# of a run, in seconds: a machine that has other work needs more
+limit=${VM_LIMIT:-600}
 passed=0
 failed=0
 

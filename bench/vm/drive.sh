@@ -44,7 +44,7 @@ begin_image() {
 
 run() {
     begin_run
-    run_on "qemu $shared/qtest $shared/area" begin_image "$shared/ram0" "$shared/ram1"
+    run_on "qemu $shared/qtest $shared/area" begin_image "$shared/ram0" "$shared/ram1" "$shared/ram2"
     check "the drive is QEMU's controller" grep -q "the drive: of QEMU" "$room/host"
     end_drive
     compare

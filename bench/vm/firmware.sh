@@ -25,11 +25,11 @@ make_files() {
     mcopy -i "$room/fat" "$room/phrase.txt" "$room/startup.nsh" ::
 }
 
-# The lines of a guest: its number, its memory, its first block, and further words for QEMU.
+# The lines of a guest: its number, its memory, its first block, further words for QEMU, and its machine, if not q35.
 guest_lines() {
     echo "guest $1 memory $2"
     echo "extent $1 $3 $blocks"
-    echo "start $1 qemu-system-x86_64 -accel $accelerator -display none -serial file:$room/serial.$1 -no-reboot -net none ${4:-}"
+    echo "start $1 qemu-system-x86_64 -machine ${5:-q35} -accel $accelerator -display none -serial file:$room/serial.$1 -no-reboot -net none ${4:-}"
 }
 
 run() {
@@ -44,8 +44,8 @@ run() {
     {
         echo "drive ram $size $room/image"
         guest_lines 0 64M 0
-        guest_lines 1 64M "$blocks"
-        guest_lines 2 256M $((2 * blocks)) "-M q35 -bios /usr/share/ovmf/OVMF.fd"
+        guest_lines 1 64M "$blocks" "" pc
+        guest_lines 2 256M $((2 * blocks)) "-bios /usr/share/ovmf/OVMF.fd"
     } > "$room/configuration"
     check "the host program, with two guests of SeaBIOS and one of EDK2" host "$room/configuration"
     check "SeaBIOS boots guest 0" says 0 "guest 0 has booted from the shared drive"

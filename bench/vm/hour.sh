@@ -39,9 +39,9 @@ run() {
     {
         echo "drive ram $(stat -c %s "$room/image") $room/image"
         echo "lanes 2"
-        guest_lines 0 hour "seconds=$((minutes * 60))"
-        guest_lines 1 hour "seconds=$((minutes * 60)) nvme=sgl_threshold=512"
-        listening_lines 2 "$shared/ram2"
+        guest_lines 0 "${kernels[0]}" hour "fs=ext4 seconds=$((minutes * 60))"
+        guest_lines 1 "${kernels[1]}" hour "fs=xfs seconds=$((minutes * 60)) nvme=sgl_threshold=512"
+        listening_lines 2
     } > "$room/configuration"
     SECONDS=0
     begin_host "$room/configuration"

@@ -46,9 +46,9 @@ guest_lines() {
     start_lines "$1" "$2" "$3" "$4"
 }
 
-# The lines of a guest that comes to the program's socket: its number and the file for its memory.
+# The lines of a guest that comes to the program's socket: its number, and the file for its memory, if it has one.
 listening_lines() {
-    echo "guest $1 memory ${small}M $2"
+    echo "guest $1 memory ${small}M${2:+ $2}"
     extent_lines "$1"
     echo "listen $1 $shared/guest$1"
 }
@@ -71,9 +71,9 @@ has_passed() {
     says "$1" "guest $1: passed"
 }
 
-# Starts a guest that breaks all rules, which is the program guest_live.
+# Starts a guest that breaks all rules, which is the program guest_live: its number, and the file for its memory, if it has one.
 begin_hostile() {
-    "$live" hostile "$shared/guest$1" "$shared/ram$1" "$RANDOM" > "$room/hostile" 2>&1 &
+    "$live" hostile "$shared/guest$1" "$((RANDOM + 1))" ${2:+"$2"} > "$room/hostile" 2>&1 &
     hostile=$!
 }
 
@@ -89,9 +89,9 @@ hostile_ended() {
     fi
 }
 
-# Writes all blocks of a guest without a machine to a file, as it reads them.
+# Writes all blocks of a guest without a machine to a file, as it reads them: its number, and the file for its memory, if it has one.
 read_guest() {
-    quietly "$live" reads "$shared/guest$1" "$shared/ram$1" "$room/blocks.$1"
+    quietly "$live" reads "$shared/guest$1" "$room/blocks.$1" ${2:+"$2"}
 }
 
 end_host() {
@@ -99,7 +99,7 @@ end_host() {
     host_ended 0
 }
 
-# Two Linux guests and a hostile one: the line of the drive, what begins it anew, and the files for the memories of the first two, if they are to have names.
+# Two Linux guests and a hostile one: the line of the drive, what begins it anew, and the files for their memories, if they are to have names.
 run_on() {
     local drive=$1 begin=$2
     {
@@ -107,12 +107,12 @@ run_on() {
         echo "lanes 2"
         guest_lines 0 "${kernels[0]}" files fs=ext4 "${3:-}"
         guest_lines 1 "${kernels[1]}" files "fs=xfs nvme=sgl_threshold=512" "${4:-}"
-        listening_lines 2 "$shared/ram2"
+        listening_lines 2 "${5:-}"
     } > "$room/first"
     sed "s/part=[a-z]*/part=again/; s/\(kernel\|initrd\)-[0-9a-z.]*/\1-$later/" "$room/first" > "$room/again"
     "$begin"
     begin_host "$room/first"
-    begin_hostile 2
+    begin_hostile 2 "${5:-}"
     check "guest 0" has_passed 0
     check "guest 1" has_passed 1
     check "guest 0 has rebooted" says 0 "guest 0: reboots"
@@ -121,7 +121,7 @@ run_on() {
     check "the host program, with three guests" end_host
     "$begin"
     begin_host "$room/again"
-    check "guest 2 reads its blocks" read_guest 2
+    check "guest 2 reads its blocks" read_guest 2 "${5:-}"
     check "guest 0 finds its files" has_passed 0
     check "guest 1 finds its files" has_passed 1
     check "the host program, started again" end_host

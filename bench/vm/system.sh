@@ -26,7 +26,7 @@ add_programs() {
     done
 }
 
-# Packs it into that file.
+# Packs it into that file. It is not compressed: a guest under TCG would need long to take that back.
 end_system() {
-    (cd "$room/system" && find . | cpio --quiet -o -H newc | gzip -1 > "$1")
+    (cd "$room/system" && find . | cpio --quiet -o -H newc > "$1")
 }

@@ -76,6 +76,11 @@ grep nvme0q /proc/interrupts
 grep nvme0q /proc/interrupts | grep -q MSI
 ! dmesg | grep -i 'completion polled\|nvme.*timeout'
 (cd /mnt && sha256sum -c sums > /dev/null)
+# in bench/vm/parts/hour.sh all of it is done again
+if [ -n "${STAYS:-}" ]; then
+    umount /mnt
+    exit
+fi
 touch /mnt/rebooted
 umount /mnt
 echo "guest $seed: reboots"

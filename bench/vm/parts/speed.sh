@@ -1,5 +1,4 @@
-# Random reads and writes on both drives of the guest, by turns: a line for each turn, with whose drive it was, the name of the job, and how many a second. The
-# queues are polled, since interrupts don't come in the same way from both drives.
+# Random reads and writes on both drives of the guest, by turns: a line for each turn, with whose drive it was, the name of the job, and how many a second.
 set -e
 for _ in 1 2 3 4 5 6 7 8 9 10; do
     [ ! -b /dev/nvme1n1 ] || break
@@ -12,7 +11,7 @@ for name in nvme0n1 nvme1n1; do
     esac
 done
 turn() {
-    fio --name="$3" --filename="$2" --direct=1 --rw="$4" --bs="$5" --iodepth="$6" --size=24m --ioengine=io_uring --hipri --time_based --runtime=1 \
+    fio --name="$3" --filename="$2" --direct=1 --rw="$4" --bs="$5" --iodepth="$6" --size=24m --ioengine=io_uring --time_based --runtime=1 \
         --ramp_time=0.5s --output-format=terse > /tmp/fio || { cat /tmp/fio; false; }
     echo "speed $1 $3 $(awk -F ';' '$1 == 3 { print $8 + $49 }' /tmp/fio)"
 }

@@ -1,15 +1,11 @@
-# The machine's two NVMe controllers by VFIO: the second one alone, and the first one by the program, which has a guest that works and a hostile one.
+# The machine's NVMe controller by VFIO: the program has it, with a guest that works and a hostile one.
 set -e
 for device in /sys/bus/pci/devices/*; do
     [ "$(cat "$device/class")" = 0x010802 ] || continue
     echo vfio-pci > "$device/driver_override"
     echo "${device##*/}" > /sys/bus/pci/drivers_probe
-    [ -n "$first" ] || first=${device##*/}
-    second=${device##*/}
+    first=${device##*/}
 done
-vfio_live "$second"
-echo "faults of $second: $(dmesg | grep -c "DMAR: .*Request device \[${second#0000:}\] fault addr 0x2000000 ")"
-
 sed "s/^drive .*/drive vfio $first/" /etc/configuration > /tmp/configuration
 nvmed-host /tmp/configuration &
 host=$!
@@ -21,15 +17,15 @@ for guest in 0 1; do
         [ $seconds -lt 30 ]
     done
 done
-guest_live hostile /tmp/guest1 /tmp/memory1 "$(date +%s)" &
+guest_live hostile /tmp/guest1 "$(date +%s)" /tmp/memory1 &
 hostile=$!
 for _ in 1 2 3 4 5 6; do guest_live works /tmp/guest0 /tmp/memory0; done
 kill $hostile
 wait $hostile
-guest_live reads /tmp/guest0 /tmp/memory0 /tmp/blocks
+guest_live reads /tmp/guest0 /tmp/blocks /tmp/memory0
 echo "the drive has $(sha256sum /tmp/blocks | cut -d ' ' -f 1)"
 rm /tmp/blocks
-guest_live reads /tmp/guest1 /tmp/memory1 /tmp/blocks
+guest_live reads /tmp/guest1 /tmp/blocks /tmp/memory1
 echo "the drive has $(sha256sum /tmp/blocks | cut -d ' ' -f 1)"
 kill $host
 wait $host

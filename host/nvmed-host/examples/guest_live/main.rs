@@ -18,6 +18,7 @@ mod client;
 #[path = "../../tests/guest/mod.rs"]
 mod guest;
 mod hostile;
+mod late;
 
 use std::cell::Cell;
 use std::error::Error;
@@ -38,9 +39,6 @@ type Failure = Box<dyn Error>;
 /// How long a socket is waited for.
 const CONNECT: Duration = Duration::from_secs(30);
 const PAUSE: Duration = Duration::from_micros(500);
-/// The drive needs less for all of the late Reads.
-const LATE: Duration = Duration::from_secs(3);
-const LATE_READS: u64 = 16;
 /// The program ends a connection with half a message after 10 s.
 const STALL: Duration = Duration::from_secs(20);
 
@@ -280,76 +278,6 @@ fn endless(guest: &mut Guest, stopping: &Stopping) -> Result<(), Failure> {
     Ok(())
 }
 
-/// Puts a Read of 8 blocks into the first queue, into a page from DATA on.
-fn put_read(guest: &mut Guest, number: u64) -> io::Result<()> {
-    let at = number % LATE_READS;
-    guest
-        .put_entry(1, entry_of(READ, [DATA + at * PAGE, 0], at * 8, 8))
-        .map(|_| ())
-}
-
-fn begin_reads(guest: &mut Guest) -> io::Result<()> {
-    for number in 0..LATE_READS {
-        put_read(guest, number)?;
-    }
-    guest.ring(1, false)
-}
-
-/// In place of each Read that ends the drive gets another. A line is printed once it has the first ones.
-fn busy(guest: &mut Guest, stopping: &Stopping) -> Result<(), Failure> {
-    bring_up(guest)?;
-    begin_reads(guest)?;
-    println!("busy");
-    let mut number = 0;
-    while !stopping.has_come() {
-        match guest.take(1)? {
-            Some(done) => {
-                demand(done.status == 0, format!("a Read: {:#x}", done.status))?;
-                put_read(guest, number)?;
-                guest.ring(1, true)?;
-                guest.ring(1, false)?;
-                number += 1;
-            }
-            None => sleep(PAUSE),
-        }
-    }
-    Ok(())
-}
-
-/// Whether the pages of the late Reads stay as they are.
-fn is_quiet(memory: &Memory) -> io::Result<bool> {
-    let marked = vec![0x5a; (LATE_READS * PAGE) as usize];
-    memory.write(DATA, &marked)?;
-    sleep(LATE);
-    Ok(memory.read(DATA, marked.len())? == marked)
-}
-
-fn resets(mut guest: Guest, socket: &Path, word: Option<&str>) -> Result<(), Failure> {
-    bring_up(&mut guest)?;
-    begin_reads(&mut guest)?;
-    let begin = Instant::now();
-    guest.client.reset()?;
-    println!("the reset was answered after {} ms", begin.elapsed().as_millis());
-    guest.await_ready(0)?;
-    println!("the controller was not ready after {} ms", begin.elapsed().as_millis());
-    demand(is_quiet(&guest.memory)?, "a Read got into the memory after the reset")?;
-    set_up_function(&mut guest)?;
-    bring_up(&mut guest)?;
-    begin_reads(&mut guest)?;
-    let Guest {
-        client, memory: before, ..
-    } = guest;
-    drop(client);
-    let mut guest = connect(socket, memory(word)?)?;
-    guest.await_ready(0)?;
-    demand(
-        is_quiet(&before)?,
-        "a Read got into the memory after the connection's end",
-    )?;
-    bring_up(&mut guest)?;
-    shut_down(&mut guest)
-}
-
 /// Sends a part of a message, and no more: it loses its connection.
 fn stops(guest: &Guest) -> Result<(), Failure> {
     let message = client::message(
@@ -394,8 +322,8 @@ fn play(mode: &str, socket: &Path, word: &str, file: Option<&str>) -> Result<(),
         "reads" => reads(&mut guest, word),
         "hostile" => hostile(&mut guest, word.parse()?, &stopping),
         "endless" => endless(&mut guest, &stopping),
-        "resets" => resets(guest, socket, file),
-        "busy" => busy(&mut guest, &stopping),
+        "resets" => late::resets(guest, socket, file),
+        "busy" => late::busy(&mut guest, &stopping),
         "shuts" => bring_up(&mut guest)
             .map_err(Failure::from)
             .and_then(|()| shut_down(&mut guest)),
