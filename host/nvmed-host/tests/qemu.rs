@@ -1,4 +1,5 @@
-//! With a real QEMU, where `NVMED_QEMU` has its words, such as `qemu-system-x86_64` or `chroot /work/q11 qemu-system-x86_64`. Without it nothing is tried.
+//! With a real QEMU: `NVMED_QEMU` has its words, such as `qemu-system-x86_64` or `chroot FOLDER qemu-system-x86_64`. So they are left out unless asked for:
+//! `NVMED_QEMU=qemu-system-x86_64 cargo test --test qemu -- --ignored`.
 
 #![allow(clippy::unwrap_used, reason = "all of it is a test")]
 
@@ -19,9 +20,9 @@ use nvmed_host::vfio_user::{pci_irq, pci_region, Answer, Connection, Device, Irq
 
 const MIB: u64 = 1 << 20;
 
-fn qemu() -> Option<Vec<OsString>> {
-    let words = std::env::var("NVMED_QEMU").ok()?;
-    Some(words.split_whitespace().map(OsString::from).collect())
+fn qemu() -> Vec<OsString> {
+    let words = std::env::var("NVMED_QEMU").unwrap();
+    words.split_whitespace().map(OsString::from).collect()
 }
 
 /// What the monitor of a machine with `bytes` bytes answers.
@@ -72,10 +73,9 @@ fn expected(regions: &[RamRegion]) -> BTreeSet<(u64, u64, u64)> {
 
 /// Each split, at the boundary, and 8 KiB and 1 MiB on either side: QEMU makes sizes multiples of 8 KiB.
 #[test]
+#[ignore = "it needs QEMU"]
 fn machines_have_their_ram_where_it_is_expected() {
-    let Some(qemu) = qemu() else {
-        return eprintln!("left out: NVMED_QEMU names no QEMU");
-    };
+    let qemu = qemu();
     for (machine, boundary) in [(Machine::Q35, 2816 * MIB), (Machine::Pc, 3584 * MIB)] {
         let around = [
             boundary - MIB,
@@ -116,10 +116,9 @@ fn accept(process: &mut Process, listener: &Listener) -> OwnedFd {
 
 /// A QEMU that is started connects, maps the guest's file, and has the machine that it should have, whatever its own words say.
 #[test]
+#[ignore = "it needs QEMU"]
 fn a_qemu_that_is_started() {
-    let Some(qemu) = qemu() else {
-        return eprintln!("left out: NVMED_QEMU names no QEMU");
-    };
+    let qemu = qemu();
     for (own, machine) in [
         (&[] as &[&str], Machine::Q35),
         (&[], Machine::Pc),
@@ -227,10 +226,9 @@ fn serve(socket: OwnedFd, memory: &mut GuestMemory, time: Duration) -> Shown {
 
 /// All that a machine shows while its firmware runs is as it is expected, for each type, small and with memory above 4 GiB.
 #[test]
+#[ignore = "it needs QEMU"]
 fn what_machines_show_is_taken() {
-    let Some(qemu) = qemu() else {
-        return eprintln!("left out: NVMED_QEMU names no QEMU");
-    };
+    let qemu = qemu();
     for (machine, bytes) in [
         (Machine::Q35, 256 * MIB),
         (Machine::Pc, 256 * MIB),
@@ -257,10 +255,9 @@ fn what_machines_show_is_taken() {
 
 /// A machine of another type than the configuration says is refused, in words, and its QEMU ends.
 #[test]
+#[ignore = "it needs QEMU"]
 fn a_machine_of_the_wrong_type_is_refused() {
-    let Some(qemu) = qemu() else {
-        return eprintln!("left out: NVMED_QEMU names no QEMU");
-    };
+    let qemu = qemu();
     let bytes = 4096 * MIB;
     let mut words = qemu.clone();
     words.extend(["-display", "none", "-M", "pc"].map(OsString::from));

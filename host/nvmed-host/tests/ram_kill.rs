@@ -1,5 +1,6 @@
-#![allow(clippy::expect_used)]
 //! A process with a simulated drive in a file is killed at any moment: its image has what was flushed, and can be used again.
+
+#![allow(clippy::expect_used)]
 
 use std::io::{BufRead, BufReader, Write};
 use std::path::{Path, PathBuf};

@@ -19,9 +19,9 @@ use nix::poll::{poll, PollFd, PollFlags, PollTimeout};
 
 use crate::doorbells::{Page, PageError};
 use crate::interrupts::{InterruptError, Signals};
+use crate::machine::Machine;
 use crate::mediation::mailbox::Gone;
 use crate::mediation::outbox::{News, Outbox};
-use crate::machine::Machine;
 use crate::mediation::wake::Bell;
 use crate::memory::{GuestMemory, MapRequest};
 use crate::process::{Listener, Process, ProcessError, STOP_WAIT};

@@ -182,29 +182,26 @@ pub fn resets(b: &mut Bench) {
             assert_eq!(b.run(0, 2, DATA, 0, i, 0), 0);
         }
         let mut outstanding = [Vec::new(), Vec::new()];
-        for lane in 0..2 {
+        for (lane, given) in outstanding.iter_mut().enumerate() {
             for i in 0..20 {
-                outstanding[lane].push(b.give(lane, 2, DATA + 0x1000 * i, 0, i, 0));
+                given.push(b.give(lane, 2, DATA + 0x1000 * i, 0, i, 0));
             }
             b.ring(lane);
         }
         b.drive.recover().unwrap().reset().unwrap();
-        for lane in 0..2 {
+        // while the reset goes on
+        for (lane, given) in outstanding.iter_mut().enumerate() {
             for i in 0..20 {
-                outstanding[lane].push(b.give(lane, 2, DATA + 0x1000 * i, 0, i, 0));
-                // while the reset goes on
+                given.push(b.give(lane, 2, DATA + 0x1000 * i, 0, i, 0));
             }
             b.ring(lane);
         }
         let begin = Instant::now();
-        for lane in 0..2 {
-            while !outstanding[lane].is_empty() {
+        for (lane, given) in outstanding.iter_mut().enumerate() {
+            while !given.is_empty() {
                 let (id, status) = b.wait(lane);
-                let at = outstanding[lane]
-                    .iter()
-                    .position(|o| *o == id)
-                    .expect("a stray completion");
-                outstanding[lane].remove(at);
+                let at = given.iter().position(|o| *o == id).expect("a stray completion");
+                given.remove(at);
                 assert!(status == 0 || status == 6, "{status:#x}");
                 failed += u32::from(status == 6);
             }
