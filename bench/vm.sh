@@ -36,6 +36,7 @@ accelerator=tcg
 # what stands before the program's words
 wrapper=()
 program=$top/host/target/release/nvmed-host
+# shellcheck disable=SC2034
 live=$top/host/target/release/examples/guest_live
 # of a run, in seconds: a machine that has other work needs more
 limit=${VM_LIMIT:-600}

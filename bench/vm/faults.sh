@@ -25,8 +25,8 @@ paint_busy() {
 
 # What a QEMU needs to come to a guest's socket by itself: its number.
 joining() {
-    joined=(-m "${small}M" -object "memory-backend-memfd,id=memory,size=${small}M,share=on" -machine q35,memory-backend=memory
-        -device "{\"driver\":\"vfio-user-pci\",\"socket\":{\"type\":\"unix\",\"path\":\"$shared/guest$1\"}}")
+    local device="{\"driver\":\"vfio-user-pci\",\"socket\":{\"type\":\"unix\",\"path\":\"$shared/guest$1\"}}"
+    joined=(-m "${small}M" -object "memory-backend-memfd,id=memory,size=${small}M,share=on" -machine "q35,memory-backend=memory" -device "$device")
 }
 
 # A QEMU for guest 0, which listens, until it is busy; then it is killed.
@@ -60,8 +60,8 @@ killed() {
     done
     for ((it = 1; it <= kills; it++)); do check "guest 0 is busy before its kill $it" killed_once; done
     check "guest 1 goes on beside it" has_passed 1
-    check "guest 0 was lost each time" test "$(grep -cE '^[^ ]+ +[A-Z]+ +guest 0: the client closed the connection' "$room/host")" == "$kills"
     check "the host program ends" end_host
+    check "guest 0 was lost each time" test "$(grep -cE '^[^ ]+ +[A-Z]+ +guest 0: the client closed the connection' "$room/host")" == "$kills"
     check "the blocks that are no guest's" gaps_are_painted
 }
 
@@ -102,8 +102,7 @@ fatal() {
     begin_failing -chardev pipe,id=monitor,path="$room/monitor" -mon chardev=monitor
     slot=$(sed -n 's/.* the drive: of QEMU at 00:\([0-9a-f]*\)\..*/0x\1/p' "$room/host")
     printf 'o /w 0xcf8 %#x\no /h 0xcfc 2\n' $((0x80000004 | slot << 11)) > "$room/monitor.in"
-    has_failed ""
-    check "it saw the fatal status" grep -q "a fatal status (CSTS.CFS)" "$room/host"
+    has_failed "shows a fatal status (CSTS.CFS)"
     check "guest 0's command has ended with an error" says 0 failed
 }
 

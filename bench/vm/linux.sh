@@ -25,10 +25,11 @@ prepare() {
 # Small systems with Debian's programs for a user of a drive, one for each kernel.
 make_systems() {
     local it
+    begin_system
+    add_programs "${programs[@]}"
+    cp /etc/mke2fs.conf "$room/system/etc/"
     for it in "$@"; do
-        begin_system "$it"
-        add_programs "${programs[@]}"
-        cp /etc/mke2fs.conf "$room/system/etc/"
+        add_modules "$it"
         end_system "$room/initrd-$it"
     done
 }

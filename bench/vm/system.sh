@@ -1,29 +1,32 @@
 # A part of bench/vm.sh: small systems for Debian's kernels, whose first program is bench/vm/init.
 # shellcheck shell=bash disable=SC2154
 
-# Begins a system for that kernel.
+# Begins a system without a kernel's modules.
 begin_system() {
-    local name=$1
     rm -rf "$room/system"
-    mkdir -p "$room/system"/{bin,usr/bin,dev,proc,sys,mnt,tmp,run,etc,lib/modules,parts}
+    mkdir -p "$room/system"/{bin,usr/bin,dev,proc,sys,mnt,tmp,run,etc,lib,parts}
     cp "$(command -v busybox)" "$room/system/bin/busybox"
     cp "$top/bench/vm/init" "$room/system/init"
     cp "$top"/bench/vm/parts/*.sh "$room/system/parts/"
     touch "$room/system/etc/mtab"
-    cp "$cache/kernel-$name"/*.ko "$cache/kernel-$name/order" "$room/system/lib/modules/"
+}
+
+# Gives it the modules of a kernel, in place of another's.
+add_modules() {
+    rm -rf "$room/system/lib/modules"
+    mkdir "$room/system/lib/modules"
+    cp "$cache/kernel-$1"/*.ko "$cache/kernel-$1/order" "$room/system/lib/modules/"
 }
 
 # Adds programs, by name or path, with the libraries that each needs.
 add_programs() {
-    local it library
+    local it paths=()
     for it in "$@"; do
         it=$(command -v "$it")
-        cp "$(readlink -f "$it")" "$room/system/usr/bin/${it##*/}"
-        ldd "$it" | grep -o '/[^ ]*' | while read -r library; do
-            mkdir -p "$room/system$(dirname "$library")"
-            cp -Ln "$library" "$room/system$library"
-        done
+        cp -L "$it" "$room/system/usr/bin/"
+        paths+=("$it")
     done
+    ldd "${paths[@]}" | sed -nE 's/^\s+(.* => )?(\/[^ ]+) \(.*/\2/p' | sort -u | xargs cp -L --parents -t "$room/system"
 }
 
 # Packs it into that file. It is not compressed: a guest under TCG would need long to take that back.

@@ -43,7 +43,8 @@ has_line() {
 
 run() {
     paint
-    begin_system "$kernel"
+    begin_system
+    add_modules "$kernel"
     # the controller is left to VFIO
     rm "$room/system/lib/modules/nvme.ko"
     sed -i '/^nvme$/d' "$room/system/lib/modules/order"

@@ -7,15 +7,15 @@ for device in /sys/bus/pci/devices/*; do
     first=${device##*/}
 done
 sed "s/^drive .*/drive vfio $first/" /etc/configuration > /tmp/configuration
-nvmed-host /tmp/configuration &
+trap 'cat /tmp/said' EXIT
+nvmed-host /tmp/configuration 2> /tmp/said &
 host=$!
-for guest in 0 1; do
-    seconds=0
-    until [ -S /tmp/guest$guest ]; do
-        sleep 1
-        seconds=$((seconds + 1))
-        [ $seconds -lt 30 ]
-    done
+# its sockets are there before its drive is, and a client waits for an answer no longer than five seconds
+seconds=0
+until grep -q 'the drive: ' /tmp/said; do
+    sleep 1
+    seconds=$((seconds + 1))
+    [ $seconds -lt 120 ]
 done
 guest_live hostile /tmp/guest1 "$(date +%s)" /tmp/memory1 &
 hostile=$!

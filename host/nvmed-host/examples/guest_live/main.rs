@@ -94,13 +94,13 @@ fn memory(word: Option<&str>) -> io::Result<Memory> {
 
 fn connect(socket: &Path, memory: Memory) -> io::Result<Guest> {
     let begin = Instant::now();
-    while let Err(error) = Client::connect(socket) {
-        if begin.elapsed() > CONNECT {
-            return Err(error);
+    loop {
+        match Client::connect(socket) {
+            Ok(client) => return Guest::on(client, memory, Bells::Page),
+            Err(error) if begin.elapsed() > CONNECT => return Err(error),
+            Err(_) => sleep(Duration::from_millis(10)),
         }
-        sleep(Duration::from_millis(10));
     }
-    Guest::connect_with(socket, memory, Bells::Page)
 }
 
 /// Interrupts and bus mastering as after a start, whatever was done to them.

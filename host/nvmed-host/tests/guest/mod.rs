@@ -129,7 +129,11 @@ impl Guest {
     }
 
     pub fn connect_with(socket: &Path, memory: Memory, bells: Bells) -> io::Result<Self> {
-        let mut client = Client::connect(socket)?;
+        Self::on(Client::connect(socket)?, memory, bells)
+    }
+
+    /// The same with a connection that is there.
+    pub fn on(mut client: Client, memory: Memory, bells: Bells) -> io::Result<Self> {
         let found = client.start_as_qemu(&memory, &ranges(memory.bytes))?;
         let page = found.regions.into_iter().next().and_then(|bar| bar.descriptor);
         let vectors = client::eventfds(9)?;
