@@ -341,9 +341,10 @@ static inline nvmed_status nvmed_due(nvmed *m, const nvmed_event *event, uint32_
  * nvmed_serve, is a command for which its guest's share of a lane has no room (nvmed_share). SAFE, EXACT
  * (each event was due, or was wanted for a command's plan, and of that scope; *done counts them; no act, no failure, and with the answer OK no command
  * was given up), CONTAINED, PRIVATE. Of all, a guest gets at most 64 events before the next guest or lane that has something. This order is not proved.
- * Errors: NULL, NO_MEDIATOR, NO_SUCH, OTHER_MEMORY (*done is 0); NO_MEMORY: *done events were made. Then there was no memory for what is left, or none for
- * the plan of a command: its last event gave that command up, which ends with Internal Error, and the other commands go on at the next call. STRAY, where
- * the drive is the host's: *done events were made, and the next completion of a lane of that scope names no command that the drive has. */
+ * Errors: NULL, NO_MEDIATOR, NO_SUCH, OTHER_MEMORY (*done is 0); NO_MEMORY: *done events were made. Then something of that scope is left that may want
+ * memory (a list, a command that is handed on, of a simulation an entry that the drive takes); or there was none for the plan of a command: its last
+ * event gave that command up, which ends with Internal Error, and the other commands go on at the next call. Of a lane nvmed_serve's mediator never wants
+ * any. STRAY, where the drive is the host's: *done events were made, and the next completion of a lane of that scope names no command that the drive has. */
 static inline nvmed_status nvmed_work(nvmed *m, uint32_t scope, uint32_t number, uint64_t most, uint64_t *done) {
     if (!m || !done) return NVMED_NULL;
     *done = 0;
