@@ -110,7 +110,7 @@ run_on() {
         guest_lines 1 "${kernels[1]}" files "fs=xfs nvme=sgl_threshold=512" "${4:-}"
         listening_lines 2 "${5:-}"
     } > "$room/first"
-    sed "s/part=[a-z]*/part=again/; s/\(kernel\|initrd\)-[0-9a-z.]*/\1-$later/" "$room/first" > "$room/again"
+    sed "s/part=[a-z]*/part=again/; s/\(kernel\|initrd\)-[0-9a-z.]*/\1-$later/g" "$room/first" > "$room/again"
     "$begin"
     begin_host "$room/first"
     begin_hostile 2 "${5:-}"

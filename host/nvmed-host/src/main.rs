@@ -35,7 +35,7 @@ The configuration has plain lines; '#' begins a comment, and a word in quotes ma
   extent G BASE BLOCKS        blocks of 512 bytes of the drive that are the guest's: one to eight such lines
   share G TAGS                of the 64 tags of each lane, at most so many (its part of those that are left)
   descriptors G N             of a scatter gather list, 1 to 4096 (1024)
-  version G 1.4               what its version register says, 1.0 to 2.0 (1.3)
+  version G 1.4               what its version register says, 1.0 to 2.0 (1.2)
   machine G q35|pc            the type of its machine (that of the words of start, or q35)
   trust G                     a file of memory that cannot be sealed is taken
   doorbells G page|messages   how it rings its doorbells (page)

@@ -175,7 +175,7 @@ pub struct GuestConfig {
     pub share: Option<u32>,
     /// Descriptors of a scatter gather list: 1 to 4,096.
     pub descriptors: u32,
-    /// What its version register says, in that register's form (NVMe, Offset 8h: VS): 1.3 without a line.
+    /// What its version register says, in that register's form (NVMe, Offset 8h: VS): 1.2 without a line.
     pub version: u32,
     /// How it rings its doorbells. Without a line by a page, and by messages where it is interrupted by the pin.
     pub doorbells: Doorbells,

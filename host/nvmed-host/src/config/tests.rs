@@ -106,7 +106,7 @@ fn all_kinds_of_lines() {
     assert_eq!((second.memory, second.share, second.file.as_ref()), (8192, None, None));
     assert_eq!(
         (second.version, second.descriptors, second.trust),
-        (0x1_0300, 1024, false)
+        (0x1_0200, 1024, false)
     );
     assert_eq!(
         (second.machine, second.interrupts),

@@ -13,8 +13,9 @@ type Fault = (u32, String);
 /// Descriptors of a scatter gather list, where no line says it.
 const DESCRIPTORS: u32 = 1024;
 
-/// What the version register says, where no line says it: 1.3. With 2.0 Linux wants what the mediator doesn't have, and leaves the namespace out.
-const VERSION: u32 = 0x1_0300;
+/// What the version register says, where no line says it: 1.2. From 1.3 on Linux wants what the mediator doesn't have, such as a namespace's list of
+/// identifiers, and leaves the namespace out.
+const VERSION: u32 = 0x1_0200;
 
 /// How long the program goes on without a pause, where no line says it.
 const SPIN: Duration = Duration::from_micros(100);
