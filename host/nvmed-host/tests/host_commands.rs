@@ -231,7 +231,7 @@ fn what_can_be_seen_without_memory() {
     assert_eq!(client.read(CONFIG, 0, 4).unwrap(), [0x36, 0x1b, 0x10, 0]);
     assert_eq!(client.read(BAR0, 8, 4).unwrap(), [0xff; 4], "memory accesses are off");
     client.write(CONFIG, 4, &[6, 0]).unwrap();
-    assert_eq!(client.read_u32(BAR0, 8).unwrap(), 0x1_0300);
+    assert_eq!(client.read_u32(BAR0, 8).unwrap(), 0x1_0200);
     assert_eq!(client.read(BAR0, 0, 0x4000).unwrap().len(), 0x4000);
     client.post_u32(BAR0, 0x14, 0x0046_0001).unwrap();
     assert_eq!(
