@@ -108,7 +108,7 @@ spent_on() {
     awk -v from=$((2 * turns * $1)) -v to=$((2 * turns * ($1 + 1))) '
         $1 <= from || !begun { first = $2; before = $3; begun = 1 }
         $1 <= to { last = $2; after = $3 }
-        END { printf "%.1f", after > before ? 1e6 * (last - first) / (after - before) : 0 }' "$room/samples"
+        END { printf "%.1f", (after > before ? 1e6 * (last - first) / (after - before) : 0) }' "$room/samples"
 }
 
 # Prints the table, and reports whether each job is fast enough: by the middle one of its pairs of turns.
