@@ -13,6 +13,8 @@ use crate::vfio_user::{
     pci_irq, pci_region, Area, Device, DeviceError, Irq, IrqAction, IrqData, Mapping, Region, SetIrqs,
 };
 
+/// NVMe Base, "Controller Status".
+const CSTS: u32 = 0x1c;
 /// Bytes of a register, and of a doorbell.
 const DWORD: usize = 4;
 
@@ -199,6 +201,16 @@ impl Function {
             self.interrupts.set_control(self.config.control())?;
         }
         Ok(())
+    }
+
+    /// Waits until the mediator has carried out all that it was asked for.
+    ///
+    /// # Errors
+    ///
+    /// The mediator has ended.
+    pub fn settle(&mut self) -> Result<(), Gone> {
+        // an answer comes after all that was asked for before
+        self.mailbox.read(CSTS).map(drop)
     }
 
     /// Reads BAR0. Doorbells read as 0, and without Memory Space Enable all bits are ones.

@@ -394,6 +394,12 @@ impl Guest {
                 }
                 self.buffer = buffer;
             }
+            Request::RegionWrite(RegionWrite { region, offset, data }) if region == pci_region::CONFIG => {
+                // such a write is not posted on a bus: whatever the guest does after its reply, a store into the doorbell page among it, comes after what it did
+                self.write(region, offset, &data)?;
+                self.function.settle()?;
+                connection.answer(ticket, Answer::Done)?;
+            }
             Request::RegionWrite(RegionWrite { region, offset, data }) => {
                 // it is posted, as on a bus: the guest goes on, and whatever it asks for next sees what it did
                 connection.answer(ticket, Answer::Done)?;
