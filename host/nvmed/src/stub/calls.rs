@@ -48,11 +48,13 @@ pub(super) fn status_of(end: WorkEnd) -> u32 {
     }
 }
 
+// Safety: as of the call of `nvmed.h` in whose place it stands.
 pub(crate) unsafe fn nvmed_raw_version() -> u32 {
     Version::WANTED.major << 16 | Version::WANTED.minor
 }
 
 #[allow(clippy::too_many_arguments)]
+// Safety: as of the call of `nvmed.h` in whose place it stands.
 pub(crate) unsafe fn nvmed_raw_serve(
     handle: *mut Handle,
     sizes: *const Sizes,
@@ -83,6 +85,7 @@ pub(crate) unsafe fn nvmed_raw_serve(
     answer
 }
 
+// Safety: as of the call of `nvmed.h` in whose place it stands.
 pub(crate) unsafe fn nvmed_raw_free(handle: *mut Handle) -> u32 {
     // SAFETY: the caller has the handle.
     let hosted = unsafe { std::mem::replace(&mut (*handle).hosted, null_mut()) };
@@ -95,6 +98,7 @@ pub(crate) unsafe fn nvmed_raw_free(handle: *mut Handle) -> u32 {
     status::OK
 }
 
+// Safety: as of the call of `nvmed.h` in whose place it stands.
 pub(crate) unsafe fn nvmed_raw_store(
     handle: *mut Handle,
     guest: u32,
@@ -112,6 +116,7 @@ pub(crate) unsafe fn nvmed_raw_store(
     answer
 }
 
+// Safety: as of the call of `nvmed.h` in whose place it stands.
 pub(crate) unsafe fn nvmed_raw_load(
     handle: *mut Handle,
     guest: u32,
@@ -155,6 +160,7 @@ fn found(state: &mut State, guest: u32, address: u64, bytes: u64, stores: bool) 
     (answer, host)
 }
 
+// Safety: as of the call of `nvmed.h` in whose place it stands.
 pub(crate) unsafe fn nvmed_raw_reg_read(
     handle: *mut Handle,
     guest: u32,
@@ -177,6 +183,7 @@ pub(crate) unsafe fn nvmed_raw_reg_read(
     accessed(guest, read.is_some())
 }
 
+// Safety: as of the call of `nvmed.h` in whose place it stands.
 pub(crate) unsafe fn nvmed_raw_reg_write(
     handle: *mut Handle,
     guest: u32,
@@ -197,6 +204,7 @@ pub(crate) unsafe fn nvmed_raw_reg_write(
     })
 }
 
+// Safety: as of the call of `nvmed.h` in whose place it stands.
 pub(crate) unsafe fn nvmed_raw_doorbell(
     handle: *mut Handle,
     guest: u32,
@@ -217,6 +225,7 @@ pub(crate) unsafe fn nvmed_raw_doorbell(
     })
 }
 
+// Safety: as of the call of `nvmed.h` in whose place it stands.
 pub(crate) unsafe fn nvmed_raw_step(handle: *mut Handle, event: *const Event, _memory: *mut u8, _bytes: usize) -> u32 {
     // SAFETY: the caller has the event.
     let event = made_of(unsafe { &*event });
@@ -228,6 +237,7 @@ pub(crate) unsafe fn nvmed_raw_step(handle: *mut Handle, event: *const Event, _m
     })
 }
 
+// Safety: as of the call of `nvmed.h` in whose place it stands.
 pub(crate) unsafe fn nvmed_raw_due(
     _handle: *mut Handle,
     event: *const Event,
@@ -244,6 +254,7 @@ pub(crate) unsafe fn nvmed_raw_due(
     }
 }
 
+// Safety: as of the call of `nvmed.h` in whose place it stands.
 pub(crate) unsafe fn nvmed_raw_work(
     handle: *mut Handle,
     scope: u32,
@@ -272,6 +283,7 @@ pub(crate) unsafe fn nvmed_raw_work(
     answer
 }
 
+// Safety: as of the call of `nvmed.h` in whose place it stands.
 pub(crate) unsafe fn nvmed_raw_rings(handle: *mut Handle, lane: u32, rings: *mut LaneRings) -> u32 {
     match with(handle, |state| state.lanes.get(lane as usize).copied()) {
         Some(own) => {
@@ -283,6 +295,7 @@ pub(crate) unsafe fn nvmed_raw_rings(handle: *mut Handle, lane: u32, rings: *mut
     }
 }
 
+// Safety: as of the call of `nvmed.h` in whose place it stands.
 pub(crate) unsafe fn nvmed_raw_pending(handle: *mut Handle, guest: u32, queue: u32, vector: *mut u32) -> u32 {
     let raised = with(handle, |state| {
         let own = state.guests.get(guest as usize)?;
@@ -299,6 +312,7 @@ pub(crate) unsafe fn nvmed_raw_pending(handle: *mut Handle, guest: u32, queue: u
     }
 }
 
+// Safety: as of the call of `nvmed.h` in whose place it stands.
 pub(crate) unsafe fn nvmed_raw_posted(
     handle: *mut Handle,
     guest: u32,
@@ -318,6 +332,7 @@ pub(crate) unsafe fn nvmed_raw_posted(
     })
 }
 
+// Safety: as of the call of `nvmed.h` in whose place it stands.
 pub(crate) unsafe fn nvmed_raw_share(handle: *mut Handle, guest: u32, tags: u32) -> u32 {
     with(handle, |state| {
         let answer = match guest > BYTE {
@@ -333,6 +348,7 @@ pub(crate) unsafe fn nvmed_raw_share(handle: *mut Handle, guest: u32, tags: u32)
     })
 }
 
+// Safety: as of the call of `nvmed.h` in whose place it stands.
 pub(crate) unsafe fn nvmed_raw_close(handle: *mut Handle, lane: u32, _memory: *mut u8, _bytes: usize) -> u32 {
     with(handle, |state| {
         let good = match state.lanes.get_mut(lane as usize) {

@@ -403,6 +403,7 @@ impl Kernel for Linux {
             .collect())
     }
 
+    // Safety: as the trait says.
     unsafe fn map_into(&self, iommufd: BorrowedFd<'_>, space: u32, map: &DmaMap) -> io::Result<()> {
         let map = SpaceMap {
             size: size::<SpaceMap>(),
