@@ -3,7 +3,8 @@ use Rattle.std.proofs.Common.{◌≡◌, ℕ, ◌+◌, ◌<◌, ◌≤◌, Bool,
 use Rattle.std.proofs.Common.{Option, Some, None, arith, refl, sym, ap, ◌∙◌, subst}
 use Rattle.std.proofs.lemmas.Bool.Decides.{nat_tests}
 use Rattle.std.proofs.lemmas.Option.{slice_get_within}
-use Rattle.nv_core.proofs.KeptStates.{IsKeptOf, length-tails}
+use Rattle.nv_core.proofs.KeptStates.{IsKeptOf}
+use Rattle.nv_laws_sound.proofs.Tails.{length-tails}
 use Rattle.nv_core.specs.State.{IsStep, State, world_of}
 use Rattle.nv_core.specs.Submit.{HaveRoom, IsSubmitted, host_behind, tag_bytes, tail_behind}
 use Rattle.nv_core.specs.Tags.{untaken}
