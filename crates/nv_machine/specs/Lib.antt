@@ -1,0 +1,3 @@
+pub mod Effects
+pub mod Doing
+pub mod Machine

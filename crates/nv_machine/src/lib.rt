@@ -1,0 +1,2 @@
+//! The mediator as a machine without memory.
+#![tactic(auto)]
