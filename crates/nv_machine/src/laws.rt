@@ -1,0 +1,2 @@
+//! Laws about the machine, as functions that do nothing: each contract is a law.
+pub mod worlds;
