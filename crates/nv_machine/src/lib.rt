@@ -1,2 +1,4 @@
 //! The mediator as a machine without memory.
 #![tactic(auto)]
+
+pub mod laws;
