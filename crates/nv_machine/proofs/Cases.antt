@@ -1,5 +1,5 @@
 -- A call and the world's step go by the same cases.
-use Rattle.std.proofs.Common.{◌≡◌, ℕ, Bool, true, false, cond, ◌==◌, List, Option, Some, None, eqb-true, refl}
+use Rattle.std.proofs.Common.{◌≡◌, ℕ, Bool, true, false, cond, ◌==◌, List, slice_get, Option, Some, None, eqb-true, refl}
 use Rattle.nv_entry.specs.Status.{StatusField}
 use Rattle.nv_machine.specs.Doing.{Called, Doing, for_ended, for_leader, for_one, for_owner, for_taken, replied}
 use Rattle.nv_machine.specs.InWorld.{in_world}
@@ -9,7 +9,12 @@ use Rattle.nv_model.specs.declared.reply.Reply.{Reply}
 use Rattle.nv_world_model.specs.Seat.{Owner}
 use Rattle.nv_world_model.specs.Share.{Share}
 use Rattle.nv_world_model.specs.Step as step
-use Rattle.nv_world_model.specs.World.{Command, Ended, Flying, Free, Tag, Taken, World}
+use Rattle.nv_world_model.specs.World.{Command, Ended, Flying, Free, Lane, Tag, Taken, World, tag_in}
+
+-- the lane of a tag
+pub tag-lane : (o : Option Lane) (tag : ℕ) (t : Tag) → tag_in o tag ≡ Some t → (l : Lane) × ((o ≡ Some l) × (slice_get l.tags tag ≡ Some t))
+tag-lane None tag t e = cc
+tag-lane (Some l) tag t e = (l, (refl, e))
 
 module _ (w : World) (m : Doing) where
   pub both-replied : (r : Reply) → Is w (replied r m) (step.replied r (in_world w m))

@@ -38,6 +38,23 @@ rung-next (t ∷ ts) (d ∷ ds) (suc lane) tail many there =
     later None = refl
     later (Some d) = refl
 
+-- each lane of the physical controller has the tail of its doorbell
+pub rung-there : (ts : List ℕ) (ds : List DeviceLane) (lane tail : ℕ) → length ts ≡ length ds → slice_get ts lane ≡ Some tail
+    → (e : DeviceLane) × (slice_get (rung_with ts ds) lane ≡ Some (record e { tail = tail }))
+rung-there [] ds lane tail many there = cc
+rung-there (t ∷ ts) [] lane tail many there = cc
+rung-there (t ∷ ts) (d ∷ ds) zero tail many there =
+    (d, ap (λ (n : ℕ). let e : DeviceLane = record d { tail = n } in Some e) (some-same t tail there))
+rung-there (t ∷ ts) (d ∷ ds) (suc lane) tail many there = rung-there ts ds lane tail cc there
+
+pub no-rung : (ts : List ℕ) (ds : List DeviceLane) (lane : ℕ) → length ts ≡ length ds → slice_get ts lane ≡ None
+    → slice_get (rung_with ts ds) lane ≡ None
+no-rung [] [] lane many none = refl
+no-rung [] (d ∷ ds) lane many none = cc
+no-rung (t ∷ ts) [] lane many none = refl
+no-rung (t ∷ ts) (d ∷ ds) zero many none = cc
+no-rung (t ∷ ts) (d ∷ ds) (suc lane) many none = no-rung ts ds lane cc none
+
 module _ (w : World) where
   pub in-told : (effects : List Effect) (m : Doing)
       → in_world w (told effects m) ≡ with_host (effects_on effects (in_world w m).host) (in_world w m)

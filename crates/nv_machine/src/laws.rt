@@ -1,2 +1,3 @@
 //! Laws about the machine, as functions that do nothing: each contract is a law.
+pub mod effects;
 pub mod worlds;
