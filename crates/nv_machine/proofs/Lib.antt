@@ -1,8 +1,8 @@
 pub mod Hosts
+pub mod Effects
 pub mod InWorlds
 pub mod Cases
 pub mod TakeCalls
 pub mod OwnPages
 pub mod SubmitCalls
-pub mod Posted
-pub mod PostCalls
+pub mod ReapCalls
