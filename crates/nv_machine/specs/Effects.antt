@@ -1,6 +1,6 @@
 -- What the mediator has its host do in memory, as a list: bytes are stored, or copied, at addresses of the host. NVM Express knows no such list: it is
 -- the mediator's own way to say what a controller's stores to memory are (profile).
-use Rattle.std.specs.Prelude.{ℕ, suc, ◌+◌, List, [], ◌∷◌, ◌++◌, drop, take, Option, None, Some}
+use Rattle.std.specs.Prelude.{ℕ, suc, ◌+◌, Bool, ◌&&◌, nat_le, nat_lt, List, [], ◌∷◌, ◌++◌, drop, length, take, Option, None, Some}
 use Rattle.std.specs.List.{filter_map, range_with_len}
 use Rattle.nv_mem.specs.GuestMap.{host_of}
 use Rattle.nv_mem.specs.Places.{At, Bucket, Place}
@@ -20,6 +20,11 @@ effect_on (Copy from to) host = stored host to (host from ∷ [])
 unfoldable pub effects_on : List Effect → (host : ℕ → ℕ) → ℕ → ℕ
 effects_on [] host = host
 effects_on (effect ∷ effects) host = effects_on effects (effect_on effect host)
+
+-- whether an effect stores a byte at a host address
+abbrev pub writes_to : Effect → (at : ℕ) → Bool
+writes_to (Store to bytes) at = nat_le to at && nat_lt at (to + length bytes)
+writes_to (Copy from to) at = nat_le to at && nat_lt at (to + 1)
 
 -- ---- a guest's memory
 
