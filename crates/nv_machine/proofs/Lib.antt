@@ -1,3 +1,4 @@
+pub mod Effects
 pub mod Hosts
 pub mod Effects
 pub mod InWorlds
