@@ -120,7 +120,7 @@ module _ (host_bytes lanes : ℕ) (geometry : Geometry) (laid : IsLaidOut host_b
         (in-told w both m
         ∙ ap (λ (h : ℕ → ℕ). with_host h (in_world w m))
         (effects_on-append effects (completion_stores (regions_of o.given) p.addr p.entry) (in_world w m).host
-        ∙ completion-stored o.given.memory_map p.addr p.entry host (laid.given o.number o.given given).sound placed.0 placed.1.0 placed.1.1))
+        ∙ completion-stored o.given.memory_map p.addr p.entry host (laid.given o.number o.given given).sound placed.0 placed.1 placed.2))
         ∙ ap (λ (x : World). with_tags lane tags Free (with_controller o.number p.controller
         (with_memory o (stored (image (regions_of o.given) x.host) p.addr p.entry) x))) (sym (all-delivered st)))
 

@@ -33,7 +33,9 @@ use Rattle.nv_world_model.specs.declared.event.Event.TheVariants as event
 row-read : (host : ℕ → ℕ) (at len : ℕ) → map host (range_with_len at len) ≡ bytes_from host at len
 unfolding bytes_from
 row-read host at zero = refl
-row-read host at (suc len) = ap (λ (xs : List ℕ). host at ∷ xs) (row-read host (suc at) len)
+row-read host at (suc len) =
+    let next : at + 1 ≡ suc at = omega arith in
+    ap (λ (xs : List ℕ). host at ∷ xs) (row-read host (at + 1) len ∙ ap (λ (a : ℕ). bytes_from host a len) next)
 
 -- the dword that is fetched first has the phase tag
 phase-first : (host : ℕ → ℕ) (slot : ℕ) → phase_of (replicate 12 0 ++ bytes_from host (slot + 12) 4) ≡ phase_of (bytes_from host slot 16)
@@ -168,6 +170,10 @@ module _ (geometry : Geometry) (w : World) (live : IsLive geometry w) where
           (let first = map w.host (from_one o (λ l. phase_dword geometry.mediator lane l)) in
           first ++ map w.host (from_one o (λ l. cond (is_new l first) (range_with_len (completion_slot geometry.mediator lane l.head) 12) [])))
 
+      first-then : (b : Bool) (slot : ℕ) → map w.host (cond b (range_with_len slot 12) []) ≡ cond b (bytes_from w.host slot 12) []
+      first-then true slot = row-read w.host slot 12
+      first-then false slot = refl
+
       by : (o : Option Lane) → slice_get w.lanes lane ≡ o
           → Is w (for_one o begun (λ l. reap lane l (fetched o) begun))
           (step.for_one o w (λ l. step.for_one (slice_get w.device lane) w (λ d. step.reap geometry lane l d w)))
@@ -182,7 +188,3 @@ module _ (geometry : Geometry) (w : World) (live : IsLive geometry w) where
           ∙ ap (λ (xs : List ℕ). called_in w (reap lane l (first ++ xs) begun)) (first-then (is_new l first) slot)
           ∙ read-is geometry w live lane l d.0 found d.1 begun refl (in-first w)
           ∙ ap (λ (x : Option DeviceLane). Some (step.for_one x w (λ d. step.reap geometry lane l d w))) (sym d.1)
-
-      first-then : (b : Bool) (slot : ℕ) → map w.host (cond b (range_with_len slot 12) []) ≡ cond b (bytes_from w.host slot 12) []
-      first-then true slot = row-read w.host slot 12
-      first-then false slot = refl

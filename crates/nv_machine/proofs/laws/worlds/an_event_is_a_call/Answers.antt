@@ -3,6 +3,7 @@ use Rattle.nv_machine.proofs.TakeCalls.{take-is}
 use Rattle.nv_machine.proofs.OwnPages.{plan-few}
 use Rattle.nv_machine.proofs.SubmitCalls.{submit-is}
 use Rattle.nv_machine.proofs.ReapCalls.{reap-is}
+use Rattle.nv_machine.proofs.PostCalls.{post-is}
 use Rattle.nv_machine.proofs.laws.worlds.an_event_is_a_call.Goals as goal
 
 pub returns : goal.returns
