@@ -2,3 +2,4 @@ pub mod Effects
 pub mod Doing
 pub mod Machine
 pub mod InWorld
+pub mod Contained
