@@ -1,2 +1,3 @@
 pub mod Effects
 pub mod Hosts
+pub mod Writes
