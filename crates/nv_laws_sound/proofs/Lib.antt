@@ -1,5 +1,7 @@
 pub mod Lists
 pub mod Tails
+pub mod Clear
+pub mod LastDwords
 pub mod Rings
 pub mod Shows
 pub mod ExtentsApart

@@ -1,3 +1,4 @@
 pub mod Effects
 pub mod Doing
 pub mod Machine
+pub mod InWorld

@@ -1,2 +1,3 @@
-//! What the machine comes to in a world, as functions that do nothing: each contract is a law.
+//! Laws about the machine, as functions that do nothing: each contract is a law.
 pub mod effects;
+pub mod worlds;
