@@ -199,7 +199,7 @@ completion_stores-row rs addr at entry host size run =
     ∙ ap (stored host at) (take-append-drop 12 entry)
 
 -- an entry of 16 bytes at a multiple of 16 does not cross a page
-page-of-entry : (addr : ℕ) → addr % 16 ≡ 0 → addr % 4096 + 16 ≤ 4096
+pub page-of-entry : (addr : ℕ) → addr % 16 ≡ 0 → addr % 4096 + 16 ≤ 4096
 page-of-entry addr aligned = omega arith
 
 -- a completion is stored in the guest's memory

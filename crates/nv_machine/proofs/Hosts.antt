@@ -105,5 +105,5 @@ row-in-page m addr len sound some within there =
     let covered : covers r addr ≡ true = find-passes (λ s. covers s addr) m.regions r found.1 in (
       r.host + (addr - r.guest),
       IsContiguous-take m.regions addr (r.host + (addr - r.guest)) (r.len - (addr - r.guest)) len (IsContiguous-front m.regions r addr sound.apart found.1) some
-      (region-page r addr len paged covered within),
+          (region-page r addr len paged covered within),
     )

@@ -8,3 +8,4 @@ pub mod Posted
 pub mod SubmitCalls
 pub mod ReapCalls
 pub mod PostCalls
+pub mod Writes

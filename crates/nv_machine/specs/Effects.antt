@@ -1,6 +1,6 @@
 -- What the mediator has its host do in memory, as a list: bytes are stored, or copied, at addresses of the host. NVM Express knows no such list: it is
 -- the mediator's own way to say what a controller's stores to memory are (profile).
-use Rattle.std.specs.Prelude.{ℕ, suc, ◌+◌, Bool, ◌&&◌, nat_le, nat_lt, List, [], ◌∷◌, ◌++◌, drop, length, take, Option, None, Some}
+use Rattle.std.specs.Prelude.{◌≡◌, ℕ, suc, ◌+◌, Bool, true, false, ◌==◌, ◌&&◌, nat_le, nat_lt, List, [], ◌∷◌, ◌++◌, drop, length, take, Option, None, Some}
 use Rattle.std.specs.List.{filter_map, range_with_len}
 use Rattle.nv_mem.specs.GuestMap.{host_of}
 use Rattle.nv_mem.specs.Places.{At, Bucket, Place}
@@ -21,10 +21,24 @@ unfoldable pub effects_on : List Effect → (host : ℕ → ℕ) → ℕ → ℕ
 effects_on [] host = host
 effects_on (effect ∷ effects) host = effects_on effects (effect_on effect host)
 
+-- ---- where they write and read
+
 -- whether an effect stores a byte at a host address
 abbrev pub writes_to : Effect → (at : ℕ) → Bool
 writes_to (Store to bytes) at = nat_le to at && nat_lt at (to + length bytes)
 writes_to (Copy from to) at = nat_le to at && nat_lt at (to + 1)
+
+-- whether it reads the byte there
+abbrev pub reads_from : Effect → (at : ℕ) → Bool
+reads_from (Store to bytes) at = false
+reads_from (Copy from to) at = from == at
+
+-- it writes in a part of the host's memory alone, or reads in it alone
+abbrev pub WritesIn : (part : ℕ → Type 0) → Effect → Type 0
+WritesIn part effect = (at : ℕ) → writes_to effect at ≡ true → part at
+
+abbrev pub ReadsIn : (part : ℕ → Type 0) → Effect → Type 0
+ReadsIn part effect = (at : ℕ) → reads_from effect at ≡ true → part at
 
 -- ---- a guest's memory
 
