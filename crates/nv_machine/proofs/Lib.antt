@@ -9,3 +9,6 @@ pub mod SubmitCalls
 pub mod ReapCalls
 pub mod PostCalls
 pub mod Writes
+pub mod OwnEntries
+pub mod Elims
+pub mod OwnStores

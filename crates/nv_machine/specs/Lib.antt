@@ -3,3 +3,4 @@ pub mod Doing
 pub mod Machine
 pub mod InWorld
 pub mod Contained
+pub mod Entries

@@ -1,4 +1,5 @@
 //! Laws about the machine, as functions that do nothing: each contract is a law.
 pub mod containment;
 pub mod effects;
+pub mod entries;
 pub mod worlds;
