@@ -4,3 +4,4 @@ pub mod Machine
 pub mod InWorld
 pub mod Contained
 pub mod Entries
+pub mod Rows
