@@ -1,10 +1,5 @@
-use Rattle.nv_machine.proofs.Cases.{both-taken}
-use Rattle.nv_machine.proofs.TakeCalls.{take-is}
-use Rattle.nv_machine.proofs.OwnPages.{plan-few}
-use Rattle.nv_machine.proofs.SubmitCalls.{submit-is}
-use Rattle.nv_machine.proofs.ReapCalls.{reap-is}
-use Rattle.nv_machine.proofs.PostCalls.{post-is}
+use Rattle.nv_machine.proofs.EventCalls.{event-is}
 use Rattle.nv_machine.proofs.laws.worlds.an_event_is_a_call.Goals as goal
 
 pub returns : goal.returns
-returns c = ?
+returns c host_bytes geometry e w mine laid live = event-is host_bytes geometry w laid live e mine
