@@ -7,3 +7,4 @@ pub mod OwnPages
 pub mod SubmitCalls
 pub mod Posted
 pub mod PostCalls
+pub mod ActCalls
