@@ -1,5 +1,5 @@
 -- How what changes in a call changes the world that it is made in.
-use Rattle.std.proofs.Common.{◌≡◌, ℕ, zero, suc, List, [], ◌∷◌, length, set, slice_get, Option, Some, None, refl, sym, ap, ◌∙◌}
+use Rattle.std.proofs.Common.{◌≡◌, ℕ, zero, suc, List, [], ◌∷◌, length, set, slice_get, Option, Some, None, arith, refl, sym, ap, ◌∙◌}
 use Rattle.nv_laws_sound.specs.Side.{rung_with}
 use Rattle.nv_laws_sound.proofs.Lists.{some-same}
 use Rattle.nv_laws_sound.proofs.Tails.{rung-same}
@@ -30,7 +30,7 @@ rung-next (t ∷ ts) [] lane tail many there = cc
 rung-next (t ∷ ts) (d ∷ ds) zero tail many there =
     ap (λ (n : ℕ). record d { tail = next_slot ring_size n } ∷ rung_with ts ds) (sym (some-same t tail there))
 rung-next (t ∷ ts) (d ∷ ds) (suc lane) tail many there =
-    ap (λ (es : List DeviceLane). record d { tail = t } ∷ es) (rung-next ts ds lane tail cc there)
+    ap (λ (es : List DeviceLane). record d { tail = t } ∷ es) (rung-next ts ds lane tail (omega (arith, many)) there)
     ∙ later (slice_get (rung_with ts ds) lane)
   where
     later : (o : Option DeviceLane) → (let e : DeviceLane = record d { tail = t } in e) ∷ changed_at o lane rung (rung_with ts ds)
@@ -45,7 +45,7 @@ rung-there [] ds lane tail many there = cc
 rung-there (t ∷ ts) [] lane tail many there = cc
 rung-there (t ∷ ts) (d ∷ ds) zero tail many there =
     (d, ap (λ (n : ℕ). let e : DeviceLane = record d { tail = n } in Some e) (some-same t tail there))
-rung-there (t ∷ ts) (d ∷ ds) (suc lane) tail many there = rung-there ts ds lane tail cc there
+rung-there (t ∷ ts) (d ∷ ds) (suc lane) tail many there = rung-there ts ds lane tail (omega (arith, many)) there
 
 pub no-rung : (ts : List ℕ) (ds : List DeviceLane) (lane : ℕ) → length ts ≡ length ds → slice_get ts lane ≡ None
     → slice_get (rung_with ts ds) lane ≡ None
@@ -53,7 +53,7 @@ no-rung [] [] lane many none = refl
 no-rung [] (d ∷ ds) lane many none = cc
 no-rung (t ∷ ts) [] lane many none = refl
 no-rung (t ∷ ts) (d ∷ ds) zero many none = cc
-no-rung (t ∷ ts) (d ∷ ds) (suc lane) many none = no-rung ts ds lane cc none
+no-rung (t ∷ ts) (d ∷ ds) (suc lane) many none = no-rung ts ds lane (omega (arith, many)) none
 
 module _ (w : World) where
   pub in-told : (effects : List Effect) (m : Doing)

@@ -1,10 +1,10 @@
 pub mod Effects
 pub mod Hosts
+pub mod Effects
 pub mod InWorlds
 pub mod Cases
 pub mod TakeCalls
 pub mod OwnPages
 pub mod SubmitCalls
-pub mod Posted
-pub mod PostCalls
+pub mod ReapCalls
 pub mod ActCalls
