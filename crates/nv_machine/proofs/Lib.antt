@@ -1,10 +1,11 @@
 pub mod Effects
 pub mod Hosts
-pub mod Effects
 pub mod InWorlds
 pub mod Cases
 pub mod TakeCalls
 pub mod OwnPages
+pub mod Posted
 pub mod SubmitCalls
 pub mod ReapCalls
+pub mod PostCalls
 pub mod ActCalls
