@@ -9,3 +9,5 @@ pub mod SubmitCalls
 pub mod ReapCalls
 pub mod PostCalls
 pub mod ActCalls
+pub mod AdminDone
+pub mod AdminCalls
