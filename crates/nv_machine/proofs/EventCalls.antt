@@ -2,12 +2,13 @@
 use Rattle.std.proofs.Common.{◌≡◌, ℕ, zero, suc, ◌+◌, ◌<◌, arith, Bool, true, false, cond, not, ◌&&◌, ◌==◌, eq-eqb, nat_le, List, [], ◌∷◌, ◌++◌, length, map, slice_get, Option, Some, is_none, refl, sym, ap, ◌∙◌}
 use Rattle.nv_laws_sound.proofs.KeptWorlds.{kept-consistent, kept-world}
 use Rattle.nv_laws_sound.proofs.Tails.{length-tails}
+use Rattle.nv_laws_sound.specs.Kept.{IsKeptWorld}
 use Rattle.nv_laws_sound.specs.LaidOut.{IsLaidOut}
 use Rattle.nv_laws_sound.specs.Mediators.{IsMediators}
 use Rattle.nv_laws_sound.specs.Side.{IsKept}
 use Rattle.nv_machine.specs.Doing.{Doing, owner_in}
 use Rattle.nv_machine.specs.Effects.{hosts_from}
-use Rattle.nv_machine.specs.InWorld.{IsLive, called_in, fetched_in, in_world, side_of}
+use Rattle.nv_machine.specs.InWorld.{AreOnPages, IsLive, IsNoReap, called_in, fetched_in, in_world, side_of}
 use Rattle.nv_machine.specs.Machine.{act_fetch, admin_fetch, call, fetch, fetch_then, from_one, front_entry, list_fetch}
 use Rattle.nv_machine.proofs.ActCalls.{acts-are}
 use Rattle.nv_machine.proofs.AdminCalls.{admins-are}
@@ -45,12 +46,13 @@ nothing-more : (xs : List ℕ) → xs ++ [] ≡ xs
 nothing-more [] = refl
 nothing-more (x ∷ xs) = ap (λ (ys : List ℕ). x ∷ ys) (nothing-more xs)
 
-module _ (host_bytes : ℕ) (geometry : Geometry) (w : World) (laid : IsLaidOut host_bytes (length w.lanes) geometry) (live : IsLive geometry w) where
+module _ (host_bytes : ℕ) (geometry : Geometry) (w : World) (laid : IsLaidOut host_bytes (length w.lanes) geometry) (keeps : IsKeptWorld geometry w)
+    (on_pages : AreOnPages w.controllers) where
   abbrev begun : Doing
   begun = record { side = side_of w; effects = [] }
 
   kept : IsKept geometry (side_of w)
-  kept = kept-world geometry w (kept-consistent geometry w live.consistent)
+  kept = kept-world geometry w keeps
 
   -- the memory of a call that begins is the world's
   begun-host : (in_world w begun).host ≡ w.host
@@ -119,26 +121,52 @@ module _ (host_bytes : ℕ) (geometry : Geometry) (w : World) (laid : IsLaidOut 
       (step geometry (event.Admin number) (in_world w begun))
   unfolding fetch fetch_then
   administered number =
-      admins-are host_bytes geometry w begun laid kept live.on_pages number (fetched_in geometry (event.Admin number) w) (λ o addr whose none room at.
+      admins-are host_bytes geometry w begun laid kept on_pages number (fetched_in geometry (event.Admin number) w) (λ o addr whose none room at.
       ap (λ (x : Option Owner). map w.host (from_one x (λ o. admin_fetch o)) ++ []) whose
       ∙ ap (λ (d : Option Deletion). map w.host (cond (is_none d && not (is_queue_full (completion_queue o.controller 0))) (front_entry o 0) []) ++ []) none
       ∙ ap (λ (b : Bool). map w.host (cond (not b) (front_entry o 0) []) ++ []) room
       ∙ front-read number o 0 addr whose at)
 
-  each : (e : Event) → IsMediators e → Is w (call geometry e (fetched_in geometry e w) (side_of w)) (step geometry e (in_world w begun))
-  each (event.Guest number a) mine = acted number a
-  each (event.Admin number) mine = administered number
-  each (event.Take number queue lane) mine = taken number queue lane
-  each (event.List lane tag addr len) mine = listed lane tag addr len
-  each (event.Submit lane tag) mine = submit-is host_bytes geometry w begun laid kept (length-tails w.device) lane tag (fetched_in geometry (event.Submit lane tag) w)
-  each (event.GiveUp lane tag) mine = give_up-is geometry w begun lane tag (fetched_in geometry (event.GiveUp lane tag) w)
-  each (event.DevTake lane) mine = absurd mine
-  each (event.DevMove lane slot number) mine = absurd mine
-  each (event.DevPost lane slot) mine = absurd mine
-  each (event.DevFail lane slot st) mine = absurd mine
-  each (event.Keep block) mine = absurd mine
-  each (event.Reap lane) mine = reap-is geometry w live lane ∙ ap (λ (v : World). Some (step geometry (event.Reap lane) v)) (sym (in-first w))
-  each (event.Post lane tag) mine = post-is host_bytes geometry w begun laid kept live.on_pages lane tag (fetched_in geometry (event.Post lane tag) w)
+  each : (e : Event) → IsMediators e → IsNoReap e → Is w (call geometry e (fetched_in geometry e w) (side_of w)) (step geometry e (in_world w begun))
+  each (event.Guest number a) mine other = acted number a
+  each (event.Admin number) mine other = administered number
+  each (event.Take number queue lane) mine other = taken number queue lane
+  each (event.List lane tag addr len) mine other = listed lane tag addr len
+  each (event.Submit lane tag) mine other =
+      submit-is host_bytes geometry w begun laid kept (length-tails w.device) lane tag (fetched_in geometry (event.Submit lane tag) w)
+  each (event.GiveUp lane tag) mine other = give_up-is geometry w begun lane tag (fetched_in geometry (event.GiveUp lane tag) w)
+  each (event.DevTake lane) mine other = absurd mine
+  each (event.DevMove lane slot number) mine other = absurd mine
+  each (event.DevPost lane slot) mine other = absurd mine
+  each (event.DevFail lane slot st) mine other = absurd mine
+  each (event.Keep block) mine other = absurd mine
+  each (event.Reap lane) mine other = absurd other
+  each (event.Post lane tag) mine other =
+      post-is host_bytes geometry w begun laid kept on_pages lane tag (fetched_in geometry (event.Post lane tag) w)
 
-  pub event-is : (e : Event) → IsMediators e → called_in w (call geometry e (fetched_in geometry e w) (side_of w)) ≡ Some (step geometry e w)
-  event-is e mine = each e mine ∙ ap (λ (v : World). Some (step geometry e v)) (in-first w)
+  pub kept-is : (e : Event) → IsMediators e → IsNoReap e
+      → called_in w (call geometry e (fetched_in geometry e w) (side_of w)) ≡ Some (step geometry e w)
+  kept-is e mine other = each e mine other ∙ ap (λ (v : World). Some (step geometry e v)) (in-first w)
+
+-- and a Reap, where the world is as events leave it
+pub event-is : (host_bytes : ℕ) (geometry : Geometry) (w : World) (laid : IsLaidOut host_bytes (length w.lanes) geometry) (live : IsLive geometry w)
+    (e : Event) → IsMediators e → called_in w (call geometry e (fetched_in geometry e w) (side_of w)) ≡ Some (step geometry e w)
+event-is host_bytes geometry w laid live e mine = by e mine
+  where
+    other : (e : Event) → IsMediators e → IsNoReap e → called_in w (call geometry e (fetched_in geometry e w) (side_of w)) ≡ Some (step geometry e w)
+    other e mine is = kept-is host_bytes geometry w laid (kept-consistent geometry w live.consistent) live.on_pages e mine is
+
+    by : (e : Event) → IsMediators e → called_in w (call geometry e (fetched_in geometry e w) (side_of w)) ≡ Some (step geometry e w)
+    by (event.Guest number a) mine = other (event.Guest number a) mine tt
+    by (event.Admin number) mine = other (event.Admin number) mine tt
+    by (event.Take number queue lane) mine = other (event.Take number queue lane) mine tt
+    by (event.List lane tag addr len) mine = other (event.List lane tag addr len) mine tt
+    by (event.Submit lane tag) mine = other (event.Submit lane tag) mine tt
+    by (event.GiveUp lane tag) mine = other (event.GiveUp lane tag) mine tt
+    by (event.DevTake lane) mine = absurd mine
+    by (event.DevMove lane slot number) mine = absurd mine
+    by (event.DevPost lane slot) mine = absurd mine
+    by (event.DevFail lane slot st) mine = absurd mine
+    by (event.Keep block) mine = absurd mine
+    by (event.Reap lane) mine = reap-is geometry w live lane
+    by (event.Post lane tag) mine = other (event.Post lane tag) mine tt
