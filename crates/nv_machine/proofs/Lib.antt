@@ -8,6 +8,10 @@ pub mod Posted
 pub mod SubmitCalls
 pub mod ReapCalls
 pub mod PostCalls
+pub mod ActCalls
+pub mod AdminDone
+pub mod AdminCalls
+pub mod EventCalls
 pub mod Writes
 pub mod OwnEntries
 pub mod Elims
