@@ -16,3 +16,4 @@ pub mod Writes
 pub mod OwnEntries
 pub mod Elims
 pub mod OwnStores
+pub mod Orders

@@ -5,3 +5,4 @@ pub mod InWorld
 pub mod Contained
 pub mod Entries
 pub mod Rows
+pub mod Order

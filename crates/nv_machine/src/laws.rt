@@ -2,4 +2,5 @@
 pub mod containment;
 pub mod effects;
 pub mod entries;
+pub mod order;
 pub mod worlds;
