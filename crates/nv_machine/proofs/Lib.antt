@@ -17,3 +17,7 @@ pub mod OwnEntries
 pub mod Elims
 pub mod OwnStores
 pub mod Orders
+pub mod AlikeSides
+pub mod AlikeGroups
+pub mod AlikeActs
+pub mod AlikeCalls
