@@ -1,5 +1,5 @@
 -- A Post and an Admin end with the completion that they post.
-use Rattle.std.proofs.Common.{◌≡◌, ℕ, ◌+◌, ◌-◌, ◌%◌, ◌<◌, ◌≤◌, Bool, true, false, cond, not, ◌==◌, nat_lt, nat_le, ◌&&◌, List, [], ◌∷◌, ◌++◌, All, drop, flat_map, length, slice_get}
+use Rattle.std.proofs.Common.{◌≡◌, ℕ, ◌+◌, ◌≤◌, Bool, false, not, ◌==◌, nat_lt, nat_le, ◌&&◌, List, [], ◌∷◌, ◌++◌, All, drop, flat_map, length, slice_get}
 use Rattle.std.proofs.Common.{slice_index, take, Option, Some, None, arith, refl, set, sym, ap, ◌∙◌, subst}
 use Rattle.std.specs.List.{Contains}
 use Rattle.std.proofs.lemmas.Bool.Decides.{nat_tests}
@@ -24,12 +24,10 @@ use Rattle.nv_machine.specs.Machine.{delivery, front_done, no_memory, post_all, 
 use Rattle.nv_machine.specs.Order.{Delivered, EndsWith, IsDelivered, IsInOrder, IsStructure, Posts, PostsNone}
 use Rattle.nv_machine.proofs.AdminDone.{admin_command-done}
 use Rattle.nv_machine.proofs.Effects.{page-of-entry}
-use Rattle.nv_machine.proofs.Elims.{each-cond, each-ended, each-one, each-owner}
+use Rattle.nv_machine.proofs.Elims.{each-ended, each-one, each-owner}
 use Rattle.nv_machine.proofs.Hosts.{row-in-page}
 use Rattle.nv_machine.proofs.Posted.{AreReady, IsPlaced, post-placed, ready-placed}
 use Rattle.nv_mem.specs.GuestMap.{IsSound, host_of, mapped}
-use Rattle.nv_mem.specs.MapRuns.{IsContiguous}
-use Rattle.nv_mem.specs.declared.region.Region.{Region}
 use Rattle.nv_model.specs.Admin.{AdminEffect, Hidden, Shown, Structure, admin_command, answered, checked, delete_found, done_by, done_with_opcode, identified, identify_by}
 use Rattle.nv_model.specs.Admin.{is_queue_full, qid, refused, selector, number_of_queues, shown, identify_reading}
 use Rattle.nv_model.specs.Controller.{Controller, Deletion, Posted, completion_queue, front, is_enabled, is_ready, post, ran_out, submission_queue, took, took_of, with_submission}
@@ -45,7 +43,6 @@ use Rattle.nv_world_model.specs.Area.{bounce_page}
 use Rattle.nv_world_model.specs.Contained.{guest_of_one}
 use Rattle.nv_world_model.specs.Geometry.{Geometry, Guest, regions_of, shape_of}
 use Rattle.nv_world_model.specs.Seat.{Owner}
-use Rattle.nv_world_model.specs.Share.{Share}
 use Rattle.nv_world_model.specs.Step.{deciding, is_success}
 use Rattle.nv_world_model.specs.World.{Command, Ended, Flying, Free, Tag, Taken}
 use Rattle.nv_world_model.specs.declared.event.Event.TheVariants as event
@@ -63,9 +60,14 @@ stores-two given p sound placed =
     let to : row.0 + 0 ≡ row.0 = omega arith in
     let first : host_of (regions_of given) p.addr ≡ Some row.0 =
     ap (host_of (regions_of given)) from ∙ row.1.contiguous 0 (omega arith) ∙ ap (λ (h : ℕ). Some h) to in
-    let second : host_of (regions_of given) (p.addr + 12) ≡ Some (row.0 + 12) = row.1.contiguous 12 (omega arith) in
-    (row.0, (first, ap (λ o. store_at o (take 12 p.entry) ++ store_at (host_of (regions_of given) (p.addr + 12)) (drop 12 p.entry)) first
-        ∙ ap (λ o. Store row.0 (take 12 p.entry) ∷ store_at o (drop 12 p.entry)) second))
+    let second : host_of (regions_of given) (p.addr + 12) ≡ Some (row.0 + 12) = row.1.contiguous 12 (omega arith) in (
+      row.0,
+      (
+        first,
+        ap (λ o. store_at o (take 12 p.entry) ++ store_at (host_of (regions_of given) (p.addr + 12)) (drop 12 p.entry)) first
+            ∙ ap (λ o. Store row.0 (take 12 p.entry) ∷ store_at o (drop 12 p.entry)) second,
+      ),
+    )
 
 -- so data and a completion end with it
 ends-with : (IsData : Effect → Type 0) (given : Guest) (p : Posted) (before : List Effect) → IsSound given.memory_map → IsPlaced given (Some p) → All IsData before
