@@ -10,7 +10,8 @@
 #     bench/vm.sh drive       the same, and the drive is the NVMe controller of another QEMU, which is started again, too
 #     bench/vm.sh vfio        in a virtual machine with an I/O MMU: the program drives QEMU's controller by VFIO, with a guest that writes, reads back and
 #                             compares beside a hostile one. The image is looked at as above
-#     bench/vm.sh firmware    SeaBIOS boots a boot sector from the shared drive, two guests at once, each its own; EDK2 finds it and reads a file
+#     bench/vm.sh firmware    SeaBIOS boots a boot sector from the shared drive, two guests at once, each its own; EDK2 finds it and reads a file; U-Boot finds
+#                             it, reads a file with the right sum, and writes blocks, which stand in the image where its guest's extent says
 #     bench/vm.sh machines    guests of 3 GiB, of exactly the size at which the machine's memory is split, and of 5 GiB, on q35 and on pc, two processors;
 #                             two drives of two programs in one guest
 #     bench/vm.sh faults      a guest is killed in the middle of its reads and writes ten times, and comes back each time, beside one that goes on; QEMU's
