@@ -19,7 +19,8 @@
 #                             waits for its Reads, a shutdown not for those of others; a guest's lists have no end; a message is not ended
 #     bench/vm.sh speed       fio in one guest that has the program's drive and one of QEMU's own controller, by turns of a second, with equal images; and
 #                             the processor time that the program needs for a command
-#     bench/vm.sh hour [N]    two Linux guests at work and a hostile one for an hour, or N minutes: the program's memory and descriptors are constant
+#     bench/vm.sh hour [N]    two Linux guests at work and a hostile one for an hour, or N minutes: the program's memory, descriptors
+#                             and threads are constant
 #
 # A current QEMU and Debian's kernels are fetched and unpacked, once, into VM_CACHE (else ~/.cache/nvmed-vm); they need not be of this system's own release.
 # Debian's busybox-static, cpio, kmod, xz-utils, nvme-cli, fio, e2fsprogs and xfsprogs, and for firmware ovmf, mtools and dosfstools are installed where they are
