@@ -6,10 +6,10 @@ use Rattle.std.proofs.lemmas.List.{length-map}
 use Rattle.std.proofs.lemmas.Option.{slice_get-map}
 use mathlib.Core.Path.{fun_ext}
 use Rattle.nv_core.proofs.HeldTags.{count-cons, in-front, numbers as numbered}
-use Rattle.nv_core.specs.Front.{IsBeside, IsSideOf, Side}
+use Rattle.nv_core.specs.Front.{IsBeside, IsSideOf}
+use Rattle.nv_laws_sound.specs.Side.{Side, AreKept}
 use Rattle.nv_core.specs.Held.{held_in, is_of}
 use Rattle.nv_core.specs.Jobs.{holder_in, job_in}
-use Rattle.nv_core.specs.Kept.{AreKept}
 use Rattle.nv_core.specs.Submit.{IsCurrentIn, IsOfTag}
 use Rattle.nv_core.specs.Tags.{those_in}
 use Rattle.nv_laws_sound.proofs.Lists.{some-same}

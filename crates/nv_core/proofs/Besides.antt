@@ -11,7 +11,8 @@ use Rattle.nv_core.proofs.KeptStates.{kept-of}
 use Rattle.nv_core.proofs.PhasedReaps.{low, must-idle, must-wait, phased, shows}
 use Rattle.nv_core.proofs.Reaps.{IsAloft, cid-flies, queue-named, reap-done, reap-idle, reap-no_lane}
 use Rattle.nv_core.proofs.Sides.{due-side, of-live, quiet-in, state_in}
-use Rattle.nv_core.specs.Front.{ComesTo, IsBeside, IsLive, IsSideOf, Side, rung_with, with_side}
+use Rattle.nv_core.specs.Front.{ComesTo, IsBeside, IsLive, IsSideOf, with_side}
+use Rattle.nv_laws_sound.specs.Side.{Side, rung_with}
 use Rattle.nv_core.specs.State.{IsOf, State}
 use Rattle.nv_core.specs.Tags.{state_in as point_in}
 use Rattle.nv_device.specs.Physical.{lane_of}

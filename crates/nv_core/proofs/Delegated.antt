@@ -14,12 +14,14 @@ use Rattle.nv_world_model.specs.Area.{tag_count}
 use Rattle.nv_core.proofs.Handed.{lane-there}
 use Rattle.nv_core.proofs.LentHost.{after-lent}
 use Rattle.nv_core.proofs.PlacesFollow.{lanes-unplaced, places-found}
-use Rattle.nv_core.proofs.Sides.{in-each, rung-one, rung-same, set-nowhere}
-use Rattle.nv_core.proofs.KeptStates.{kept-of, length-tails, tail-of}
-use Rattle.nv_core.specs.Front.{ComesTo, HasTailMoved, IsBeside, IsLive, IsLiveStep, IsSideOf, IsSideStep, IsStepInEach, Side, rung_with, tails_of}
+use Rattle.nv_core.proofs.Sides.{in-each}
+use Rattle.nv_laws_sound.proofs.Tails.{rung-one, rung-same, set-nowhere, length-tails, tail-of}
+use Rattle.nv_core.proofs.KeptStates.{kept-of}
+use Rattle.nv_core.specs.Front.{ComesTo, HasTailMoved, IsBeside, IsLive, IsLiveStep, IsSideOf, IsSideStep, IsStepInEach}
+use Rattle.nv_laws_sound.specs.Side.{Side, rung_with, tails_of, AreKept, IsKept}
 use Rattle.nv_core.specs.Held.{held_in}
 use Rattle.nv_core.specs.Jobs.{holder_in, holder_of, job_in, job_of}
-use Rattle.nv_core.specs.Kept.{AreKept, IsKept, IsLent}
+use Rattle.nv_core.specs.Kept.{IsLent}
 use Rattle.nv_core.specs.Seat.{IsLoaded}
 use Rattle.nv_core.specs.State.{IsOf, IsStep, State, state_of, world_of}
 use Rattle.nv_core.specs.Places.{placed_lanes}

@@ -4,7 +4,8 @@ use Rattle.std.proofs.Common.{refl, sym, ap, ◌∙◌, arith}
 use Rattle.std.specs.List.{list_any}
 use Rattle.nv_admin.specs.Event.{is_stepped}
 use Rattle.nv_core.specs.Groups.{statuses_in}
-use Rattle.nv_core.proofs.KeptStates.{IsKeptOf, length-tails}
+use Rattle.nv_core.proofs.KeptStates.{IsKeptOf}
+use Rattle.nv_laws_sound.proofs.Tails.{length-tails}
 use Rattle.nv_core.specs.State.{IsOf, IsStep, State, world_of}
 use Rattle.nv_core.specs.Tags.{unended, unled}
 use Rattle.nv_core.specs.Take.{is_front_takeable}

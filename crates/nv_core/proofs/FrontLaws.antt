@@ -3,10 +3,12 @@ use Rattle.std.proofs.Common.{◌≡◌, ℕ, List, [], length, slice_get, Some,
 use Rattle.nv_core.proofs.Alike.{kept-alike}
 use Rattle.nv_core.proofs.Besides.{beside-of}
 use Rattle.nv_core.proofs.Delegated.{tails-opening, tails-rung}
-use Rattle.nv_core.proofs.KeptStates.{kept-consistent, kept-world, length-tails, tail-of}
+use Rattle.nv_laws_sound.proofs.KeptWorlds.{kept-consistent, kept-world}
+use Rattle.nv_laws_sound.proofs.Tails.{length-tails, tail-of}
 use Rattle.nv_core.proofs.Sides.{in-each, own-side, own-world}
-use Rattle.nv_core.specs.Front.{ComesTo, IsBeside, IsReaped, IsSideOf, IsSideStep, IsStepBeside, IsStepInEach, Side, opening_side, rung_with, tails_of, with_side}
-use Rattle.nv_core.specs.Kept.{AreKept, IsKept, IsLent}
+use Rattle.nv_core.specs.Front.{ComesTo, IsBeside, IsReaped, IsSideOf, IsSideStep, IsStepBeside, IsStepInEach, with_side}
+use Rattle.nv_laws_sound.specs.Side.{Side, opening_side, rung_with, tails_of, AreKept, IsKept}
+use Rattle.nv_core.specs.Kept.{IsLent}
 use Rattle.nv_laws_sound.proofs.ControllersSide.{side-alone}
 use Rattle.nv_laws_sound.proofs.KeptEvents.{reaped-kept, step-kept}
 use Rattle.nv_laws_sound.proofs.Openings.{opening-consistent}

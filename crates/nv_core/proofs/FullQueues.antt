@@ -3,7 +3,8 @@ use Rattle.std.proofs.Common.{◌≡◌, ℕ, ◌+◌, ◌==◌, cond, Bool, tru
 use Rattle.nv_core.proofs.Dues.{due-by}
 use Rattle.nv_core.proofs.GroupTags.{lane-where, numbers-from}
 use Rattle.nv_core.proofs.TagLists.{made-at}
-use Rattle.nv_core.specs.Front.{IsSideOf, Side}
+use Rattle.nv_core.specs.Front.{IsSideOf}
+use Rattle.nv_laws_sound.specs.Side.{Side}
 use Rattle.nv_core.specs.FullQueues.{AreHeldWith, AreWaiting, IsFull, NoneWait, from_in, is_from, origin_by, origin_in}
 use Rattle.nv_core.specs.Tags.{IsUsed, command_at, IsWhole, tag_made, tags_of}
 use Rattle.nv_core.specs.declared.full.Origin.{Origin}

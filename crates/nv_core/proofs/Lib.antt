@@ -1,7 +1,6 @@
 pub mod KeptStates
 pub mod Notes
 pub mod Placed
-pub mod Clear
 pub mod LentHost
 pub mod Sides
 pub mod Delegated
@@ -17,7 +16,6 @@ pub mod DeviceSteps
 pub mod DevicePosts
 pub mod DeviceTakes
 pub mod ReapAnswers
-pub mod LastDwords
 pub mod Reaps
 pub mod Dues
 pub mod FullQueues

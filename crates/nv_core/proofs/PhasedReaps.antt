@@ -2,7 +2,8 @@
 use Rattle.std.proofs.Common.{◌≡◌, ℕ, ◌<◌, ◌≤◌, ◌⊎◌, inl, inr, Bool, true, false, not, ◌==◌, eq-eqb, List, length, get_or, slice_get, Some, arith, refl, sym, ap, ◌∙◌, subst}
 use Rattle.std.proofs.lemmas.Bool.{cases_eq, cases_lt, ne_eqb}
 use Rattle.std.specs.Prelude.{◌↔◌, IsTrue, ◌≢◌}
-use Rattle.nv_core.specs.Front.{IsLive, IsSideOf, Side}
+use Rattle.nv_core.specs.Front.{IsLive, IsSideOf}
+use Rattle.nv_laws_sound.specs.Side.{Side}
 use Rattle.nv_core.proofs.GroupWorlds.{looked-up}
 use Rattle.nv_core.proofs.Reaps.{slice_get-or}
 use Rattle.nv_device.specs.Physical.{no_lane}

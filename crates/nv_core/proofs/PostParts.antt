@@ -6,7 +6,7 @@ use Rattle.std.specs.Option.{option_map}
 use Rattle.std.proofs.lemmas.List.Elements.{All-cons, All-head, All-map, All-nil, All-tail, All-weaker}
 use Rattle.nv_core.specs.Ending.{AreParts, IsPart, MayDeliver}
 use Rattle.nv_core.specs.Groups.{statuses_in}
-use Rattle.nv_core.proofs.Clear.{clear-span}
+use Rattle.nv_laws_sound.proofs.Clear.{clear-span}
 use Rattle.nv_core.proofs.GroupWorlds.{group-lane}
 use Rattle.nv_core.proofs.PartKinds.{shares-kind}
 use Rattle.nv_entry.specs.Status.{StatusField}

@@ -1,9 +1,11 @@
 -- A world that has the mediator's side, as a state with a device on lists: what an event comes to there, it comes to in that world.
 use Rattle.std.proofs.Common.{◌≡◌, ℕ, zero, suc, Bool, false, ◌&&◌, List, [], ◌∷◌, map, replicate, set, slice_get, Option, Some, None, lit<, refl, sym, ap, ◌∙◌, subst, length}
 use Rattle.std.proofs.lemmas.List.{length-replicate}
-use Rattle.nv_core.proofs.KeptStates.{IsKeptOf, tail-of}
-use Rattle.nv_core.specs.Front.{ComesTo, HasTailMoved, IsLive, IsSideOf, IsStepInEach, Side, rung_with, tails_of, with_side}
-use Rattle.nv_core.specs.Kept.{AreKept, IsKept, IsLent}
+use Rattle.nv_core.proofs.KeptStates.{IsKeptOf}
+use Rattle.nv_laws_sound.proofs.Tails.{tail-of}
+use Rattle.nv_core.specs.Front.{ComesTo, HasTailMoved, IsLive, IsSideOf, IsStepInEach, with_side}
+use Rattle.nv_laws_sound.specs.Side.{Side, rung_with, tails_of, AreKept, IsKept}
+use Rattle.nv_core.specs.Kept.{IsLent}
 use Rattle.nv_core.specs.State.{IsOf, IsStep, State, world_of}
 use Rattle.nv_device.specs.Physical.{no_lane, with_lane}
 use Rattle.nv_disk.specs.Flat.{byte_of_block}
@@ -28,25 +30,6 @@ use Rattle.nv_world_model.specs.Seat.{completion_at}
 use Rattle.nv_world_model.specs.Step.{After, is_done, reaped, step}
 use Rattle.nv_world_model.specs.World.{Lane, World}
 use Rattle.nv_world_model.specs.declared.event.Event.{Event}
-
--- tails that are rung again
-pub rung-same : (ds : List DeviceLane) → rung_with (tails_of ds) ds ≡ ds
-rung-same [] = refl
-rung-same (d ∷ ds) = ap (λ (es : List DeviceLane). d ∷ es) (rung-same ds)
-
--- one that is rung with another
-pub rung-one : (ds : List DeviceLane) (lane tail : ℕ) (d : DeviceLane) → slice_get ds lane ≡ Some d
-    → rung_with (set (tails_of ds) lane tail) ds ≡ set ds lane (record d { tail = tail })
-rung-one [] lane tail d there = cc
-rung-one (e ∷ ds) zero tail d there =
-    let same : e ≡ d = some-same e d there in
-    ap (λ (x : DeviceLane). record x { tail = tail } ∷ rung_with (tails_of ds) ds) same ∙ ap (λ (es : List DeviceLane). record d { tail = tail } ∷ es) (rung-same ds)
-rung-one (e ∷ ds) (suc lane) tail d there = ap (λ (es : List DeviceLane). e ∷ es) (rung-one ds lane tail d there)
-
-pub set-nowhere : (ds : List DeviceLane) (lane tail : ℕ) → slice_get ds lane ≡ None → set (tails_of ds) lane tail ≡ tails_of ds
-set-nowhere [] lane tail none = refl
-set-nowhere (e ∷ ds) zero tail none = cc
-set-nowhere (e ∷ ds) (suc lane) tail none = ap (λ (ts : List ℕ). e.tail ∷ ts) (set-nowhere ds lane tail none)
 
 -- what is consistent is so beside another disk
 consistent-on : (geometry : Geometry) (w : World) (disk : ℕ → ℕ → ℕ) (kept : ℕ → Bool) → IsConsistent geometry w → IsConsistent geometry (on_disk disk kept w)

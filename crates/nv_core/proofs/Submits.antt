@@ -1,9 +1,10 @@
 -- A Submit, from the host, the device and the lane to the world.
-use Rattle.std.proofs.Common.{◌≡◌, ℕ, ◌+◌, ◌<◌, ◌≤◌, Bool, true, false, ◌||◌, List, [], ◌∷◌, cond, get_or, length, max, set, slice_get}
-use Rattle.std.proofs.Common.{Option, Some, None, arith, refl, sym, ap, ◌∙◌, subst}
-use Rattle.std.proofs.lemmas.Bool.Decides.{nat_tests}
+use Rattle.std.proofs.Common.{◌≡◌, ℕ, ◌<◌, List, get_or, length, set, slice_get}
+use Rattle.std.proofs.Common.{Option, Some, None, arith, sym, ap, ◌∙◌, subst}
 use Rattle.std.proofs.lemmas.Option.{slice_get_within}
-use Rattle.nv_core.proofs.KeptStates.{IsKeptOf, length-tails}
+use Rattle.nv_core.proofs.KeptStates.{IsKeptOf}
+use Rattle.nv_laws_sound.proofs.Clear.{clear-span}
+use Rattle.nv_laws_sound.proofs.Tails.{length-tails}
 use Rattle.nv_core.specs.State.{IsStep, State, world_of}
 use Rattle.nv_core.specs.Submit.{HaveRoom, IsSubmitted, host_behind, tag_bytes, tail_behind}
 use Rattle.nv_core.specs.Tags.{untaken}
@@ -15,8 +16,6 @@ use Rattle.nv_device.specs.Physical.{lane_of, with_lane}
 use Rattle.nv_device.specs.State.{Physical}
 use Rattle.nv_laws_sound.proofs.Lists.{set-same, slice_get-there}
 use Rattle.nv_laws_sound.specs.Unplaced.{after_unplaced}
-use Rattle.nv_mem.specs.GuestMap.{covers_host, guest_of, span_met, spans_meet}
-use Rattle.nv_mem.specs.declared.region.Region.{Region}
 use Rattle.nv_model.specs.Controller.{Controller}
 use Rattle.nv_model.specs.Memory.{byte_in}
 use Rattle.nv_model.specs.Transcript.{Outcome, Settled, Wanted}
@@ -31,36 +30,6 @@ use Rattle.nv_world_model.specs.Step.{After, for_one, for_owner, replied, step, 
 use Rattle.nv_world_model.specs.World.{Command, Lane, group, group_in, tag_of}
 use Rattle.nv_world_model.specs.declared.event.Event.{Event}
 use Rattle.nv_world_model.specs.declared.event.Event.TheVariants as event
-
--- ---- what no guest has
-
--- spans that meet have an address in common
-met-inside : (a m b n : ℕ) → spans_meet a m b n ≡ true → (max a b < b + n) × (max a b < a + m)
-met-inside a m b n e = (grind (arith, nat_tests), grind (arith, nat_tests))
-
-covered : (r : Region) (at : ℕ) → r.host ≤ at → at < r.host + r.len → covers_host r at ≡ true
-covered r at low high = grind (arith, nat_tests)
-
--- a region that has none of these addresses meets no span of them
-span-clear : (r : Region) (host len : ℕ) → ((at : ℕ) → host ≤ at → at < host + len → covers_host r at ≡ false) → spans_meet r.host r.len host len ≡ false
-span-clear r host len none = by-test (spans_meet r.host r.len host len) refl
-  where
-    by-test : (b : Bool) → spans_meet r.host r.len host len ≡ b → b ≡ false
-    by-test false e = refl
-    by-test true e =
-        let inside = met-inside r.host r.len host len e in
-        sym (covered r (max r.host host) (omega arith) inside.1) ∙ none (max r.host host) (omega arith) inside.0
-
-not-covered : (b : Bool) (addr : ℕ) (rest : Option ℕ) → cond b (Some addr) rest ≡ None → (b ≡ false) × (rest ≡ None)
-not-covered true addr rest e = cc
-not-covered false addr rest e = (refl, e)
-
--- a span none of whose addresses is a guest's meets none of its regions
-pub nobodys-apart : (rs : List Region) (host len : ℕ) → ((at : ℕ) → host ≤ at → at < host + len → guest_of rs at ≡ None) → span_met rs host len ≡ false
-nobodys-apart [] host len none = refl
-nobodys-apart (r ∷ rs) host len none =
-    ap (λ (b : Bool). b || span_met rs host len) (span-clear r host len (λ at low high. (not-covered _ _ _ (none at low high)).0))
-    ∙ nobodys-apart rs host len (λ at low high. (not-covered _ _ _ (none at low high)).1)
 
 -- ---- what stays
 
@@ -147,7 +116,7 @@ module _ (geometry : Geometry) (s : State) (lane tag : ℕ) where
             area = omega (arith, below, area);
             made_for = (of.laid_out.given t.command.guest guest there).host;
             apart =
-                nobodys-apart (regions_of guest) (list_page geometry.mediator lane other) tag_bytes
+                clear-span (regions_of guest) (list_page geometry.mediator lane other) tag_bytes
                 (λ at low high. of.laid_out.outside t.command.guest guest at there (omega (arith, low)) (omega (arith, high, below, inside)));
           }
 

@@ -1,36 +1,19 @@
--- The mediator's side of the world, which has neither the host's memory nor the physical controller: in which worlds it may be, and what a call comes to
--- in each of them (profile).
-use Rattle.std.specs.Prelude.{◌≡◌, ℕ, ◌<◌, List, [], ◌∷◌, length, map, replicate, slice_get, slice_index, slice_set, Some}
+-- In which worlds the mediator's side may be, and what a call comes to in each of them (profile).
+use Rattle.std.specs.Prelude.{◌≡◌, ℕ, ◌<◌, List, map, slice_get, slice_index, slice_set, Some}
 use Rattle.nv_laws_sound.specs.Consistent.{IsConsistent}
 use Rattle.nv_laws_sound.specs.Phased.{ArePhased}
+use Rattle.nv_laws_sound.specs.Side.{Side, rung_with, tails_of}
 use Rattle.nv_laws_sound.specs.Unplaced.{after_unplaced, unplaced_lane}
-use Rattle.nv_model.specs.Controller.{Controller, opening}
+use Rattle.nv_model.specs.Controller.{Controller}
 use Rattle.nv_model.specs.Memory.{byte_in}
 use Rattle.nv_model.specs.declared.reply.Reply.{Reply}
 use Rattle.nv_vctl.specs.Vctl.{most_taken}
 use Rattle.nv_world_model.specs.Area.{ring_size}
-use Rattle.nv_world_model.specs.Device.{DeviceLane}
 use Rattle.nv_world_model.specs.Geometry.{Geometry}
 use Rattle.nv_world_model.specs.Seat.{completion_at}
 use Rattle.nv_world_model.specs.Step.{After, reaped, step}
-use Rattle.nv_world_model.specs.World.{Lane, World, opening_lane}
+use Rattle.nv_world_model.specs.World.{Lane, World}
 use Rattle.nv_world_model.specs.declared.event.Event.{Event}
-
--- lanes, the tail of each lane's submission ring, and each guest's controller
-pub record Side : Type 0 where
-  pub lanes : List Lane
-  pub tails : List ℕ
-  pub controllers : List Controller
-
--- the tails of the submission rings as the physical controller has them
-abbrev pub tails_of : List DeviceLane → List ℕ
-tails_of ds = map (λ d. d.tail) ds
-
--- the physical controller's side of the lanes once the doorbells were written with these tails
-abbrev pub rung_with : (tails : List ℕ) → List DeviceLane → List DeviceLane
-rung_with [] ds = ds
-rung_with (tail ∷ tails) [] = []
-rung_with (tail ∷ tails) (d ∷ ds) = record d { tail = tail } ∷ rung_with tails ds
 
 -- a world has this side, and its host is that memory
 pub record IsSideOf (side : Side) (memory : List ℕ) (w : World) : Type 0 where
@@ -96,12 +79,3 @@ pub record HasTailMoved (lane : ℕ) (old new : List ℕ) : Type 0 where
 abbrev pub CountMore : (guest : ℕ) → List Controller → Type 0
 CountMore guest controllers =
     (c : Controller) (queue : ℕ) → slice_get controllers guest ≡ Some c → slice_index c.taken queue < most_taken
-
--- the side at the start, with so many lanes
-abbrev pub opening_side : Geometry → (lanes : ℕ) → Side
-opening_side geometry lanes =
-    record {
-      lanes = replicate lanes opening_lane;
-      tails = replicate lanes 0;
-      controllers = replicate (length geometry.guests) opening;
-    }

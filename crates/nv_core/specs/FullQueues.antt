@@ -1,7 +1,7 @@
 -- Commands by the queue that they were taken from, and queues of a guest that are full (profile).
 use Rattle.std.specs.Prelude.{◌≡◌, ℕ, ◌<◌, ◌≤◌, ◌==◌, ◌&&◌, Bool, true, false, List, [], slice_get, Option, Some, None, option_map}
 use Rattle.std.specs.List.{list_any}
-use Rattle.nv_core.specs.Front.{Side}
+use Rattle.nv_laws_sound.specs.Side.{Side}
 use Rattle.nv_core.specs.Tags.{command_at}
 use Rattle.nv_core.specs.declared.full.Origin.{Origin}
 use Rattle.nv_entry.specs.Status.{StatusField}

@@ -2,7 +2,7 @@
 use Rattle.std.specs.Prelude.{◌≡◌, ℕ, ◌<◌, ◌==◌, Bool, true, false, if◌then◌else◌, List, slice_get, Option, Some, None, is_some}
 use Rattle.std.specs.Int.{bit_at}
 use Rattle.nv_admin.specs.Event.{is_stepped}
-use Rattle.nv_core.specs.Front.{Side}
+use Rattle.nv_laws_sound.specs.Side.{Side}
 use Rattle.nv_model.specs.Admin.{admin}
 use Rattle.nv_model.specs.Controller.{Controller, front}
 use Rattle.nv_world_model.specs.SetUp.{most_guests}

@@ -1,7 +1,7 @@
 -- The mediated world on lists: what the code holds of it, what that means as the world of the definitions, and what an event that was
 -- carried out comes to (profile).
 use Rattle.std.specs.Prelude.{◌≡◌, ℕ, ◌<◌, List, length, slice_get, slice_index, Some}
-use Rattle.nv_core.specs.Front.{Side}
+use Rattle.nv_laws_sound.specs.Side.{Side}
 use Rattle.nv_core.specs.Places.{placed_lanes}
 use Rattle.nv_device.specs.State.{Physical}
 use Rattle.nv_laws_sound.specs.Consistent.{IsConsistent}

@@ -1,7 +1,8 @@
 //! The events of guests and of the mediator, by its front with the host's memory and the physical controller's doorbells.
 
 ghost use Rattle.std.specs.Prelude.{◌≡◌, ◌↔◌, ◌<◌, ◌≤◌, IfOk, IfSome, IsSome, IsTrue, None, OnErr, Some, false, length, slice_get};
-ghost use Rattle.nv_core.specs.Front.{HasTailMoved, rung_with, tails_of};
+ghost use Rattle.nv_core.specs.Front.{HasTailMoved};
+ghost use Rattle.nv_laws_sound.specs.Side.{rung_with, tails_of};
 ghost use Rattle.nv_core.specs.Held.{held_in};
 ghost use Rattle.nv_core.specs.Jobs.{holder_of, job_of};
 ghost use Rattle.nv_core.specs.Noted.{IsQuietAt};

@@ -2,7 +2,7 @@
 
 ghost use Rattle.std.specs.Prelude.{◌≡◌, ◌&&◌, IfOk, OnErr, length, nat_lt};
 ghost use Rattle.nv_core.specs.Answers.{said};
-ghost use Rattle.nv_core.specs.Front.{tails_of};
+ghost use Rattle.nv_laws_sound.specs.Side.{tails_of};
 ghost use Rattle.nv_core.specs.State.{IsOf, IsStep, state_of};
 ghost use Rattle.nv_world_model.specs.Area.{tag_count};
 

@@ -18,7 +18,7 @@ pub struct Front {
 }
 
 impl Model for Front {
-    ghost use Rattle.nv_core.specs.Front.{Side};
+    ghost use Rattle.nv_laws_sound.specs.Side.{Side};
     ghost use Rattle.nv_core.specs.Noted.{AreNoted};
 
     ghost Value = { Side };

@@ -3,7 +3,8 @@
 ghost use Rattle.std.specs.Prelude.{◌≡◌, ℕ, if◌then◌else◌, List, Option, Some, is_some, length, slice_get, true};
 ghost use Rattle.nv_core.specs.Ending.{IsEnded};
 ghost use Rattle.nv_core.specs.Front.{IsBeside, IsLive, IsSideOf};
-ghost use Rattle.nv_core.specs.Kept.{IsKept, IsLent};
+ghost use Rattle.nv_core.specs.Kept.{IsLent};
+ghost use Rattle.nv_laws_sound.specs.Side.{IsKept};
 ghost use Rattle.nv_core.specs.Reaping.{waits_in};
 ghost use Rattle.nv_core.specs.Groups.{statuses_in};
 ghost use Rattle.nv_core.specs.Take.{is_front_takeable};

@@ -4,8 +4,9 @@
 //! these places alone.
 
 ghost use Rattle.std.specs.Prelude.{◌≡◌, ℕ, List, Some, length, slice_get};
-ghost use Rattle.nv_core.specs.Front.{IsBeside, IsReaped, IsSideOf, IsSideStep, IsStepBeside, IsStepInEach, Side, opening_side};
-ghost use Rattle.nv_core.specs.Kept.{IsKept, IsLent};
+ghost use Rattle.nv_core.specs.Front.{IsBeside, IsReaped, IsSideOf, IsSideStep, IsStepBeside, IsStepInEach};
+ghost use Rattle.nv_laws_sound.specs.Side.{Side, opening_side, IsKept};
+ghost use Rattle.nv_core.specs.Kept.{IsLent};
 ghost use Rattle.nv_core.specs.Places.{placed_lanes};
 ghost use Rattle.nv_laws_sound.specs.Consistent.{IsConsistent};
 ghost use Rattle.nv_laws_sound.specs.Mediators.{IsMediators};

@@ -1,7 +1,7 @@
 //! The world at its start.
 
 ghost use Rattle.std.specs.Prelude.{◌≡◌, IfOk, length, replicate};
-ghost use Rattle.nv_core.specs.Front.{opening_side};
+ghost use Rattle.nv_laws_sound.specs.Side.{opening_side};
 ghost use Rattle.nv_core.specs.State.{IsOpening};
 ghost use Rattle.nv_device.specs.Physical.{FitsLimits};
 ghost use Rattle.nv_model.specs.Controller.{opening};

@@ -17,7 +17,7 @@ pub struct Core {
 
 impl Model for Core {
     ghost use Rattle.std.specs.Prelude.{◌≡◌};
-    ghost use Rattle.nv_core.specs.Front.{tails_of};
+    ghost use Rattle.nv_laws_sound.specs.Side.{tails_of};
     ghost use Rattle.nv_core.specs.State.{State, state_of};
 
     ghost Value = { State };

@@ -2,7 +2,8 @@
 
 ghost use Rattle.std.specs.Prelude.{◌≡◌, ℕ, ◌&&◌, IfOk, List, OnErr, nat_le, slice_get};
 ghost use Rattle.nv_core.specs.Front.{IsSideStep};
-ghost use Rattle.nv_core.specs.Kept.{IsKept, IsLent};
+ghost use Rattle.nv_core.specs.Kept.{IsLent};
+ghost use Rattle.nv_laws_sound.specs.Side.{IsKept};
 ghost use Rattle.nv_core.specs.Seat.{bytes_told};
 ghost use Rattle.nv_core.specs.Tags.{unended, untaken};
 ghost use Rattle.nv_model.specs.Limits.{part_size};

@@ -1,7 +1,8 @@
 //! Which worlds have a mediator's side, which steps are made beside it, and which logs lead to it.
 
 ghost use Rattle.std.specs.Prelude.{◌+◌, [], ◌∷◌, false, true};
-ghost use Rattle.nv_core.specs.Front.{IsBeside, IsSideOf, IsStepBeside, opening_side};
+ghost use Rattle.nv_core.specs.Front.{IsBeside, IsSideOf, IsStepBeside};
+ghost use Rattle.nv_laws_sound.specs.Side.{opening_side};
 ghost use Rattle.nv_examples_host.specs.Scenes.{elsewhere, given, reading, register_written, serving, side, start, unfitting, with_tails, world_of};
 ghost use Rattle.nv_laws_front.specs.Reached.{IsFirst, IsReached};
 ghost use Rattle.nv_model.specs.Memory.{stored};

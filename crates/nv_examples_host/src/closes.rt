@@ -1,7 +1,8 @@
 //! What a close comes to.
 
 ghost use Rattle.std.specs.Prelude.{ℕ, ◌++◌, [], ◌∷◌, All, List, replicate, true};
-ghost use Rattle.nv_core.specs.Front.{IsReaped, Side};
+ghost use Rattle.nv_core.specs.Front.{IsReaped};
+ghost use Rattle.nv_laws_sound.specs.Side.{Side};
 ghost use Rattle.nv_entry.specs.StatusCode.{done_with};
 ghost use Rattle.nv_entry.specs.declared.status_code.StatusCode.TheVariants.{InternalError, Success};
 ghost use Rattle.nv_examples_host.specs.Scenes.{one_lane, busy_lane, closed_but_one, command_of, flying, low, one_tag, reading, side, two_slots, with_tails};

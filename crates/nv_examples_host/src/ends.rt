@@ -1,7 +1,8 @@
 //! What becomes of tags as a lane is closed, and a world without the places of parts.
 
 ghost use Rattle.std.specs.Prelude.{◌≡◌, [], ◌∷◌, Some, None, false, length, map, slice_get};
-ghost use Rattle.nv_core.specs.Front.{opening_side, rung_with, tails_of, with_side};
+ghost use Rattle.nv_core.specs.Front.{with_side};
+ghost use Rattle.nv_laws_sound.specs.Side.{opening_side, rung_with, tails_of};
 ghost use Rattle.nv_entry.specs.StatusCode.{done_with};
 ghost use Rattle.nv_entry.specs.declared.status_code.StatusCode.TheVariants.{InternalError, Success};
 ghost use Rattle.nv_examples_host.specs.Scenes.{command_of, flying, given, part, reading, side, world_of};

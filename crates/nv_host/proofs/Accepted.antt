@@ -1,6 +1,7 @@
 -- What a set-up that is not refused comes to. Nothing else here looks into that.
 use Rattle.std.proofs.Common.{◌≡◌, ℕ, ◌<◌, ◌≤◌, List, slice_get, Some, arith}
-use Rattle.nv_core.specs.Front.{IsLive, Side}
+use Rattle.nv_core.specs.Front.{IsLive}
+use Rattle.nv_laws_sound.specs.Side.{Side}
 use Rattle.nv_host.specs.Served.{IsAccepted}
 use Rattle.nv_laws_front.proofs.Reached.{reached-live, reached-promised}
 use Rattle.nv_laws_front.specs.Reached.{IsReached}

@@ -6,9 +6,10 @@ use Rattle.nv_core.proofs.Alike.{counted-alike}
 use Rattle.nv_core.proofs.Besides.{beside-of}
 use Rattle.nv_core.proofs.Delegated.{tails-rung}
 use Rattle.nv_core.proofs.FrontLaws.{comes-beside, each-lent, in-beside, own-kept}
-use Rattle.nv_core.proofs.KeptStates.{length-tails}
+use Rattle.nv_laws_sound.proofs.Tails.{length-tails}
 use Rattle.nv_core.proofs.Sides.{own-side, own-world}
-use Rattle.nv_core.specs.Front.{ComesTo, CountMore, HasTailMoved, IsSideStep, IsStepInEach, Side, tails_of, with_side}
+use Rattle.nv_core.specs.Front.{ComesTo, CountMore, HasTailMoved, IsSideStep, IsStepInEach, with_side}
+use Rattle.nv_laws_sound.specs.Side.{Side, tails_of}
 use Rattle.nv_core.specs.Kept.{IsLent}
 use Rattle.nv_host.proofs.Accepted.{few-lanes, lies-out}
 use Rattle.nv_host.proofs.HeldEvents.{step-given as world-given}

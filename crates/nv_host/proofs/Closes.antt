@@ -1,7 +1,8 @@
 -- A close, as a run of events after each log.
 use Rattle.std.proofs.Common.{◌≡◌, ℕ, List, [], sym, subst, ◌∙◌, append-nil}
 use Rattle.std.proofs.lemmas.List.Elements.{All-nil}
-use Rattle.nv_core.specs.Front.{IsLive, Side}
+use Rattle.nv_core.specs.Front.{IsLive}
+use Rattle.nv_laws_sound.specs.Side.{Side}
 use Rattle.nv_host.proofs.Accepted.{leads-live}
 use Rattle.nv_host.proofs.Runs.{ended-by, lead-on}
 use Rattle.nv_host.specs.Closing.{IsEnding, IsEndedBy}

@@ -6,8 +6,8 @@ use Rattle.std.specs.Option.{option_map}
 use Rattle.std.specs.Prelude.{◌↔◌, IsTrue}
 use Rattle.nv_core.proofs.Reaps.{aloft, reaped-as}
 use Rattle.nv_core.proofs.Sides.{own-side, own-world}
-use Rattle.nv_core.specs.Front.{IsReaped, Side}
-use Rattle.nv_core.specs.Kept.{IsKept}
+use Rattle.nv_core.specs.Front.{IsReaped}
+use Rattle.nv_laws_sound.specs.Side.{Side, IsKept}
 use Rattle.nv_core.specs.Reaping.{answer_of, answer_to, next_completion}
 use Rattle.nv_core.specs.Tags.{is_flying}
 use Rattle.nv_entry.specs.Completion.{cid_of, phase_of, sqid_of, status_of}

@@ -4,7 +4,8 @@ use Rattle.std.proofs.lemmas.Bool.{cases_lt}
 use Rattle.std.specs.Option.{unwrap_or}
 use Rattle.std.specs.Prelude.{slice_index}
 use Rattle.nv_core.proofs.Reaps.{aloft}
-use Rattle.nv_core.specs.Front.{IsReaped, Side}
+use Rattle.nv_core.specs.Front.{IsReaped}
+use Rattle.nv_laws_sound.specs.Side.{Side}
 use Rattle.nv_core.specs.Reaping.{next_completion, waits_in}
 use Rattle.nv_core.specs.Tags.{is_flying}
 use Rattle.nv_entry.proofs.CompletionLemmas.{length-completion}

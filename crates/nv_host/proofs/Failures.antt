@@ -3,8 +3,9 @@
 use Rattle.std.proofs.Common.{◌≡◌, ℕ, ◌<◌, Bool, true, false, not, ◌==◌, eqb-true, List, set, slice_get, Option, Some, None, arith, refl, sym, ap, ◌∙◌}
 use Rattle.nv_core.proofs.Besides.{FliesToo, flies-too}
 use Rattle.nv_core.proofs.FrontLaws.{controller-beside}
-use Rattle.nv_core.proofs.KeptStates.{tail-of}
-use Rattle.nv_core.specs.Front.{IsBeside, IsLive, Side}
+use Rattle.nv_laws_sound.proofs.Tails.{tail-of}
+use Rattle.nv_core.specs.Front.{IsBeside, IsLive}
+use Rattle.nv_laws_sound.specs.Side.{Side}
 use Rattle.nv_core.specs.Reaping.{waits_in}
 use Rattle.nv_entry.specs.Completion.{completion}
 use Rattle.nv_entry.specs.Status.{StatusField, bit}

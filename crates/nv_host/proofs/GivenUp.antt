@@ -8,9 +8,9 @@ use Rattle.std.specs.Option.{option_map}
 use Rattle.nv_core.proofs.FrontLaws.{step-beside}
 use Rattle.nv_core.proofs.GroupWorlds.{ended-lane, group-lane, leads, not-taken, taken-tag, with_lane_at}
 use Rattle.nv_core.proofs.Sides.{own-side, own-world}
-use Rattle.nv_core.specs.Front.{IsSideStep, Side, with_side}
+use Rattle.nv_core.specs.Front.{IsSideStep, with_side}
+use Rattle.nv_laws_sound.specs.Side.{Side, IsKept}
 use Rattle.nv_core.specs.Groups.{all_ended, tags_changed}
-use Rattle.nv_core.specs.Kept.{IsKept}
 use Rattle.nv_core.specs.Reaping.{next_completion, waits_in}
 use Rattle.nv_core.specs.Tags.{IsTaken, untaken}
 use Rattle.nv_entry.specs.Completion.{phase_of}

@@ -9,7 +9,8 @@ use Rattle.nv_core.proofs.Besides.{beside-of}
 use Rattle.nv_core.proofs.FrontLaws.{in-beside, own-kept}
 use Rattle.nv_core.proofs.FullQueues.{full-held}
 use Rattle.nv_core.proofs.Sides.{own-side, own-world}
-use Rattle.nv_core.specs.Front.{ComesTo, IsReaped, IsSideOf, IsSideStep, IsStepInEach, Side, with_side}
+use Rattle.nv_core.specs.Front.{ComesTo, IsReaped, IsSideOf, IsSideStep, IsStepInEach, with_side}
+use Rattle.nv_laws_sound.specs.Side.{Side}
 use Rattle.nv_core.specs.FullQueues.{AreHeldWith, IsFull, from_in, is_from}
 use Rattle.nv_core.specs.Jobs.{held_by, holder_in}
 use Rattle.nv_core.specs.News.{is_busy, others, tags_at}

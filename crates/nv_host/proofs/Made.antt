@@ -1,6 +1,6 @@
 -- What the fields of the code's mediator make.
 use Rattle.std.proofs.Common.{ℕ, Bool, List}
-use Rattle.nv_core.specs.Front.{Side}
+use Rattle.nv_laws_sound.specs.Side.{Side}
 use Rattle.nv_host.specs.Served.{Served}
 use Rattle.nv_world_model.specs.Geometry.{Geometry}
 

@@ -3,7 +3,8 @@ use Rattle.std.proofs.Common.{◌≡◌, ℕ, List, [], ◌∷◌, ◌++◌, len
 use Rattle.std.proofs.lemmas.List.{length-map}
 use Rattle.std.proofs.lemmas.List.Elements.{All-append, All-cons, All-head, All-nil, All-tail}
 use Rattle.std.specs.List.{All}
-use Rattle.nv_core.specs.Front.{IsBeside, IsLive, Side}
+use Rattle.nv_core.specs.Front.{IsBeside, IsLive}
+use Rattle.nv_laws_sound.specs.Side.{Side}
 use Rattle.nv_host.specs.Closing.{Fails, GivesUp, IsEnding, IsEndedBy, Reads, Takes}
 use Rattle.nv_host.specs.Ending.{IsIdleRun, IsRun, Leads}
 use Rattle.nv_host.specs.Served.{LeadsTo, Served}

@@ -5,8 +5,7 @@ use Rattle.std.proofs.lemmas.List.Folds.{sum_by-replicate}
 use Rattle.std.specs.List.{sum}
 use Rattle.std.proofs.lemmas.List.{length-replicate}
 use Rattle.nv_core.proofs.FrontLaws.{start-kept, start-side}
-use Rattle.nv_core.specs.Front.{Side, opening_side}
-use Rattle.nv_core.specs.Kept.{IsKept}
+use Rattle.nv_laws_sound.specs.Side.{Side, opening_side, IsKept}
 use Rattle.nv_host.specs.Served.{AreCounted, IsAccepted, IsAtStart, IsServed, LeadsTo, Served, opened}
 use Rattle.nv_host.specs.Shares.{AreShares, needed_in_all, opening_spare}
 use Rattle.nv_laws_front.proofs.Reached.{start-reached}

@@ -5,7 +5,8 @@ use Rattle.std.proofs.lemmas.List.Elements.{All-cons, All-nil}
 use Rattle.std.specs.Prelude.{◌≢◌}
 use Rattle.nv_core.proofs.Besides.{seen}
 use Rattle.nv_core.proofs.FrontLaws.{controller-beside}
-use Rattle.nv_core.specs.Front.{IsBeside, IsLive, Side}
+use Rattle.nv_core.specs.Front.{IsBeside, IsLive}
+use Rattle.nv_laws_sound.specs.Side.{Side}
 use Rattle.nv_entry.specs.Submission.{cid_of}
 use Rattle.nv_host.proofs.Runs.{step-live}
 use Rattle.nv_host.specs.Closing.{IsEnding, Takes}

@@ -1,6 +1,7 @@
 -- What closing a lane comes to: by logs of events, and, whatever is in memory, by the lane's tags and by bytes (profile).
 use Rattle.std.specs.Prelude.{◌≡◌, ◌≢◌, ◌⊎◌, ◌++◌, ℕ, zero, suc, false, ◌<◌, ◌≤◌, ◌==◌, if◌then◌else◌, All, List, length, None, Some, option_map, slice_get}
-use Rattle.nv_core.specs.Front.{IsReaped, Side}
+use Rattle.nv_core.specs.Front.{IsReaped}
+use Rattle.nv_laws_sound.specs.Side.{Side}
 use Rattle.nv_core.specs.Jobs.{job_in}
 use Rattle.nv_core.specs.Reaping.{answer_of}
 use Rattle.nv_core.specs.Tags.{is_flying}

@@ -1,6 +1,7 @@
 -- What single steps of a close come to, for the contracts of private functions alone: by tags, by bytes, and as runs of events (profile).
 use Rattle.std.specs.Prelude.{◌≡◌, ℕ, ◌==◌, Bool, false, if◌then◌else◌, All, List, slice_get}
-use Rattle.nv_core.specs.Front.{IsBeside, IsLive, Side}
+use Rattle.nv_core.specs.Front.{IsBeside, IsLive}
+use Rattle.nv_laws_sound.specs.Side.{Side}
 use Rattle.nv_core.specs.Reaping.{waits_in}
 use Rattle.nv_entry.specs.Completion.{cid_of, phase_of, sqid_of, status_of}
 use Rattle.nv_entry.specs.Status.{bit}

@@ -1,7 +1,7 @@
 -- Commands that wait for room in their guests' completion queues, as they are noted (profile).
 use Rattle.std.specs.Prelude.{◌≡◌, ◌==◌, ℕ, if◌then◌else◌, true, replicate, slice_get, Some}
 use Rattle.std.specs.List.{list_any}
-use Rattle.nv_core.specs.Front.{Side}
+use Rattle.nv_laws_sound.specs.Side.{Side}
 use Rattle.nv_core.specs.FullQueues.{IsFull}
 use Rattle.nv_core.specs.News.{tags_at}
 use Rattle.nv_core.specs.Tags.{command_at}

@@ -1,8 +1,8 @@
 -- The mediator of a host that has memory and a drive of its own: what the code holds, which logs lead to it, and what a call comes to (profile).
 use Rattle.std.specs.Prelude.{◌≡◌, ℕ, ◌+◌, ◌<◌, ◌≤◌, ◌⊎◌, Bool, true, false, if◌then◌else◌, List, [], ◌∷◌, ◌++◌, nat_lt, not, Option, length, replicate, slice_get, Some, None}
-use Rattle.nv_core.specs.Front.{IsBeside, IsSideOf, IsStepBeside, Side, opening_side}
+use Rattle.nv_core.specs.Front.{IsBeside, IsSideOf, IsStepBeside}
+use Rattle.nv_laws_sound.specs.Side.{Side, opening_side, IsKept}
 use Rattle.nv_core.specs.Held.{held_in}
-use Rattle.nv_core.specs.Kept.{IsKept}
 use Rattle.nv_host.specs.Shares.{AreShares, is_within, most_given, needed_in_all, opening_spare}
 use Rattle.nv_laws_front.specs.Reached.{IsReached}
 use Rattle.nv_laws_sound.specs.Counted.{IsCounted}

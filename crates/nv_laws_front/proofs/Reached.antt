@@ -3,7 +3,8 @@ use Rattle.std.proofs.Common.{◌≡◌, ℕ, List, [], ◌∷◌, ◌++◌, sli
 use Rattle.std.proofs.lemmas.List.{length-replicate}
 use Rattle.std.proofs.lemmas.List.Elements.{All-append, All-cons, All-nil}
 use Rattle.nv_core.proofs.FrontLaws.{controller-beside, start-side}
-use Rattle.nv_core.specs.Front.{IsBeside, IsLive, IsStepBeside, Side, opening_side}
+use Rattle.nv_core.specs.Front.{IsBeside, IsLive, IsStepBeside}
+use Rattle.nv_laws_sound.specs.Side.{Side, opening_side}
 use Rattle.nv_laws.proofs.headline.Each.{promise-kept}
 use Rattle.nv_laws.specs.Alike.{HasFittingStatus}
 use Rattle.nv_laws_front.specs.Reached.{IsFirst, IsReached}

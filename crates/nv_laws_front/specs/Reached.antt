@@ -1,6 +1,7 @@
 -- What led to a front's side: its calls, and what the physical controller did meanwhile (profile).
 use Rattle.std.specs.Prelude.{◌≡◌, ℕ, All, List}
-use Rattle.nv_core.specs.Front.{IsBeside, Side}
+use Rattle.nv_core.specs.Front.{IsBeside}
+use Rattle.nv_laws_sound.specs.Side.{Side}
 use Rattle.nv_laws.specs.Alike.{HasFittingStatus}
 use Rattle.nv_laws_sound.specs.Phased.{AreRingsClear}
 use Rattle.nv_world_model.specs.Log.{IsReplay}

@@ -1,7 +1,8 @@
 //! From the start, call by call, to the promise.
 
 ghost use Rattle.std.specs.Prelude.{◌≡◌, ℕ, ◌++◌, [], ◌∷◌, List, None, Some, slice_get};
-ghost use Rattle.nv_core.specs.Front.{IsBeside, IsLive, IsStepBeside, Side, opening_side};
+ghost use Rattle.nv_core.specs.Front.{IsBeside, IsLive, IsStepBeside};
+ghost use Rattle.nv_laws_sound.specs.Side.{Side, opening_side};
 ghost use Rattle.nv_laws.specs.Alike.{HasFittingStatus};
 ghost use Rattle.nv_laws_front.specs.Reached.{IsReached};
 ghost use Rattle.nv_laws_sound.specs.Mediators.{IsMediators};

@@ -1,4 +1,7 @@
 pub mod Lists
+pub mod Tails
+pub mod Clear
+pub mod LastDwords
 pub mod Rings
 pub mod Shows
 pub mod ExtentsApart
@@ -48,6 +51,7 @@ pub mod GroupShares
 pub mod phases
 pub mod Moved
 pub mod Mediators
+pub mod KeptWorlds
 pub mod KeptSteps
 pub mod KeptEvents
 pub mod Unplaced

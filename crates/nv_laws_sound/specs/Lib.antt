@@ -3,6 +3,7 @@ pub mod Area
 pub mod Groups
 pub mod Consistent
 pub mod Kept
+pub mod Side
 pub mod Counted
 pub mod Phased
 pub mod Mediators

@@ -1,6 +1,6 @@
 -- What the admin queue does keeps what its queues have.
 use Rattle.std.proofs.Common.{◌≡◌, ℕ, ◌+◌, ◌*◌, ◌%◌, Bool, true, false, not, ◌||◌, ◌==◌, nat_lt, nat_le, List, [], ◌∷◌, ◌++◌, slice_index, Option, Some, None}
-use Rattle.std.proofs.Common.{is_some, is_none, arith, refl, ltb-false, eq-eqb, le-leb}
+use Rattle.std.proofs.Common.{is_some, is_none, arith, refl, eqb-true, ltb-false, eq-eqb, le-leb}
 use Rattle.std.specs.Bool.{⊤}
 use Rattle.nv_entry.specs.Submission.{opcode_of, fuse_of, psdt_of, cid_of, prp1_of}
 use Rattle.nv_entry.specs.Opcode.{admin_opcode}
@@ -71,6 +71,13 @@ place_checks-mapped mapped slot entry fine =
     let behind = (first_failing-none (not (prp1_of entry % 4096 == 0)) code.PrpOffsetInvalid second fine).1 in
     not-false _ (first_failing-none (not (everywhere mapped (prp1_of entry) (slot * (qsize entry + 1)))) code.DataTransferError [] behind).0
 
+place_checks-page : (mapped : ℕ → Bool) (slot : ℕ) (entry : List ℕ)
+    → first_failing (place_checks mapped slot entry) ≡ None → prp1_of entry % 4096 ≡ 0
+place_checks-page mapped slot entry fine =
+    let second : List (Bool × StatusCode) = (not (everywhere mapped (prp1_of entry) (slot * (qsize entry + 1))), code.DataTransferError) ∷ [] in
+    eqb-true (prp1_of entry % 4096) 0
+    (not-false _ (first_failing-none (not (prp1_of entry % 4096 == 0)) code.PrpOffsetInvalid second fine).0)
+
 completes_to_checks-none : (c : Controller) (entry : List ℕ) (others : List (Bool × StatusCode))
     → first_failing (completes_to_checks c entry ++ others) ≡ None → first_failing others ≡ None
 completes_to_checks-none c entry others fine =
@@ -92,18 +99,19 @@ module _ (mapped : ℕ → Bool) (P : SubmissionQueue → Type 0) (Q : Completio
   create_submission-kept entry c memory order =
       checked-kept _ c memory _ order (λ fine.
       let size = new_queue_checks-size (is_some (submission_queue c (qid entry))) entry (completes_to_checks c entry ++ place_checks mapped sqe_size entry) fine in
-      let there = place_checks-mapped mapped sqe_size entry (completes_to_checks-none c entry (place_checks mapped sqe_size entry) size.1) in
+      let placed = completes_to_checks-none c entry (place_checks mapped sqe_size entry) size.1 in
       QueuesHave-with_submission mapped P Q closed c (qid entry) (Some (new_submission (prp1_of entry) (qsize entry + 1) (completion_id entry))) order
-      (closed.new_submission (prp1_of entry) (qsize entry + 1) (completion_id entry) size.0 there))
+      (closed.new_submission (prp1_of entry) (qsize entry + 1) (completion_id entry) size.0
+      (place_checks-page mapped sqe_size entry placed) (place_checks-mapped mapped sqe_size entry placed)))
 
   create_completion-kept : (entry : List ℕ) (c : Controller) (memory : ℕ → ℕ) → QueuesHave P Q c
       → DoneHas P Q (create_completion mapped entry c memory)
   create_completion-kept entry c memory order =
       checked-kept _ c memory _ order (λ fine.
       let size = new_queue_checks-size (is_some (completion_queue c (qid entry))) entry (place_checks mapped cqe_size entry) fine in
-      let there = place_checks-mapped mapped cqe_size entry size.1 in
       QueuesHave-with_completion mapped P Q closed c (qid entry) (Some (new_completion (prp1_of entry) (qsize entry + 1) (vector_of entry))) order
-      (closed.new_completion (prp1_of entry) (qsize entry + 1) (vector_of entry) size.0 there))
+      (closed.new_completion (prp1_of entry) (qsize entry + 1) (vector_of entry) size.0
+      (place_checks-page mapped cqe_size entry size.1) (place_checks-mapped mapped cqe_size entry size.1)))
 
   delete_completion-kept : (entry : List ℕ) (c : Controller) (memory : ℕ → ℕ) → QueuesHave P Q c
       → DoneHas P Q (delete_completion entry c memory)

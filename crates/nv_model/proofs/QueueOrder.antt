@@ -4,7 +4,8 @@ use Rattle.std.proofs.Math.Nat.{add-mod_right, mod_self}
 use Rattle.std.proofs.lemmas.Bool.{cases_lt}
 use Rattle.nv_model.specs.Queue.{ahead, is_full, next_slot}
 use Rattle.nv_model.specs.Controller.{size_fits}
-use Rattle.nv_model.specs.Laws.{IsCompletionInOrder, IsCompletionInPlace, IsInOrder, IsSubmissionInOrder, IsSubmissionInPlace}
+use Rattle.nv_model.specs.Laws.{IsCompletionInOrder, IsCompletionInPlace, IsCompletionOnPage, IsInOrder, IsSubmissionInOrder, IsSubmissionInPlace}
+use Rattle.nv_model.specs.Laws.{IsSubmissionOnPage}
 use Rattle.nv_model.proofs.QueuesKept.{IsKept}
 use Rattle.nv_model.proofs.Endings.{and-true}
 
@@ -90,8 +91,8 @@ IsInOrder-at size head tail from to order head_below tail_below =
 pub IsKept-in_order : (mapped : ℕ → Bool) → IsKept mapped IsSubmissionInOrder IsCompletionInOrder
 IsKept-in_order mapped =
     record {
-      new_submission = λ base size to fits there. let bounds = size_fits-bounds size fits in IsInOrder-new size bounds.0 bounds.1;
-      new_completion = λ base size vector fits there. let bounds = size_fits-bounds size fits in IsInOrder-new size bounds.0 bounds.1;
+      new_submission = λ base size to fits on there. let bounds = size_fits-bounds size fits in IsInOrder-new size bounds.0 bounds.1;
+      new_completion = λ base size vector fits on there. let bounds = size_fits-bounds size fits in IsInOrder-new size bounds.0 bounds.1;
       front_taken = λ q is. IsInOrder-head q.size q.head q.tail is;
       tail_rung = λ q tail below is. IsInOrder-at q.size q.head q.tail q.head tail is is.head_is_slot below;
       closing = λ q is. is;
@@ -103,11 +104,24 @@ IsKept-in_order mapped =
 pub IsKept-in_place : (mapped : ℕ → Bool) → IsKept mapped (IsSubmissionInPlace mapped) (IsCompletionInPlace mapped)
 IsKept-in_place mapped =
     record {
-      new_submission = λ base size to fits there. let bounds = size_fits-bounds size fits in (IsInOrder-new size bounds.0 bounds.1, there);
-      new_completion = λ base size vector fits there. let bounds = size_fits-bounds size fits in (IsInOrder-new size bounds.0 bounds.1, there);
+      new_submission = λ base size to fits on there. let bounds = size_fits-bounds size fits in (IsInOrder-new size bounds.0 bounds.1, there);
+      new_completion = λ base size vector fits on there. let bounds = size_fits-bounds size fits in (IsInOrder-new size bounds.0 bounds.1, there);
       front_taken = λ q is. (IsInOrder-head q.size q.head q.tail is.0, is.1);
       tail_rung = λ q tail below is. (IsInOrder-at q.size q.head q.tail q.head tail is.0 is.0.head_is_slot below, is.1);
       closing = λ q is. is;
       posted = λ q is. (IsInOrder-tail q.size q.head q.tail is.0, is.1);
       head_rung = λ q head below is. (IsInOrder-at q.size q.head q.tail head q.tail is.0 below is.0.tail_is_slot, is.1);
+    }
+
+-- and that they begin with a page
+pub IsKept-on_pages : (mapped : ℕ → Bool) → IsKept mapped IsSubmissionOnPage IsCompletionOnPage
+IsKept-on_pages mapped =
+    record {
+      new_submission = λ base size to fits on there. on;
+      new_completion = λ base size vector fits on there. on;
+      front_taken = λ q is. is;
+      tail_rung = λ q tail below is. is;
+      closing = λ q is. is;
+      posted = λ q is. is;
+      head_rung = λ q head below is. is;
     }

@@ -1,6 +1,6 @@
 -- What a controller does keeps what its queues have.
 use Rattle.std.proofs.Common.{◌≡◌, ℕ, zero, suc, ◌-◌, ◌*◌, ◌/◌, ◌%◌, ◌<◌, Bool, true, false, cond, not, ◌&&◌, ◌==◌, nat_lt, nat_le, List, [], ◌∷◌, set}
-use Rattle.std.proofs.Common.{slice_get, All, Option, Some, None, IfSome, refl, sym, ap, ◌∙◌, subst, ltb-true}
+use Rattle.std.proofs.Common.{slice_get, All, Option, Some, None, IfSome, refl, sym, ap, ◌∙◌, subst, eqb-true, ltb-true}
 use Rattle.std.proofs.lemmas.List.Elements.{All-head, All-tail, All-set, All-replicate}
 use Rattle.nv_entry.specs.Layout.{bits}
 use Rattle.nv_entry.specs.Status.{StatusField}
@@ -11,6 +11,7 @@ use Rattle.nv_model.specs.Controller.{admin_submission_size, base_fits, can_enab
 use Rattle.nv_model.specs.Controller.{is_enabled, is_ready, no_queues, opening, post, post_from, post_to, queue_count, queue_of, ran_out, reg_write}
 use Rattle.nv_model.specs.Controller.{reset, rung, running, size_fits, submission_queue, tail_rung, took, took_of, with_completion, with_submission}
 use Rattle.nv_model.specs.Laws.{QueuesHave}
+use Rattle.nv_model.specs.Limits.{page}
 use Rattle.nv_model.proofs.Endings.{and-true}
 
 -- ---- by cases
@@ -44,10 +45,10 @@ queue_of-set (x ∷ xs) (suc y) q new found = queue_of-set xs y q new found
 
 -- what queues have that each change of a queue keeps
 pub record IsKept (mapped : ℕ → Bool) (P : SubmissionQueue → Type 0) (Q : CompletionQueue → Type 0) : Type 0 where
-  pub new_submission : (base size to : ℕ) → size_fits size ≡ true → everywhere mapped base (sqe_size * size) ≡ true
+  pub new_submission : (base size to : ℕ) → size_fits size ≡ true → base % page ≡ 0 → everywhere mapped base (sqe_size * size) ≡ true
       → P (new_submission base size to)
-  pub new_completion : (base size : ℕ) (vector : Option ℕ) → size_fits size ≡ true → everywhere mapped base (cqe_size * size) ≡ true
-      → Q (new_completion base size vector)
+  pub new_completion : (base size : ℕ) (vector : Option ℕ) → size_fits size ≡ true → base % page ≡ 0
+      → everywhere mapped base (cqe_size * size) ≡ true → Q (new_completion base size vector)
   pub front_taken : (q : SubmissionQueue) → P q → P (front_taken q)
   pub tail_rung : (q : SubmissionQueue) (tail : ℕ) → tail < q.size → P q → P (record q { tail = tail })
   pub closing : (q : SubmissionQueue) → P q → P (record q { closing = true })
@@ -104,9 +105,9 @@ module _ (mapped : ℕ → Bool) (P : SubmissionQueue → Type 0) (Q : Completio
       let submission_there = and-true (admin_submission_base c % 4096 == 0) (everywhere mapped (admin_submission_base c) (sqe_size * admin_submission_size c)) all.2 in
       let completion_there = and-true (admin_completion_base c % 4096 == 0) (everywhere mapped (admin_completion_base c) (cqe_size * admin_completion_size c)) all.3 in
       record {
-        submission_queues = All-set (λ o. IfSome o P) c.submission 0 _ (closed.new_submission (admin_submission_base c) (admin_submission_size c) 0 all.0 submission_there.1) order.submission_queues;
+        submission_queues = All-set (λ o. IfSome o P) c.submission 0 _ (closed.new_submission (admin_submission_base c) (admin_submission_size c) 0 all.0 (eqb-true (admin_submission_base c % 4096) 0 submission_there.0) submission_there.1) order.submission_queues;
         completion_queues = All-set (λ o. IfSome o Q) c.completion_queues 0 _
-            (closed.new_completion (admin_completion_base c) (admin_completion_size c) (Some 0) all.1 completion_there.1) order.completion_queues;
+            (closed.new_completion (admin_completion_base c) (admin_completion_size c) (Some 0) all.1 (eqb-true (admin_completion_base c % 4096) 0 completion_there.0) completion_there.1) order.completion_queues;
       })
       (λ can_not. QueuesHave-same c _ order refl refl)
 

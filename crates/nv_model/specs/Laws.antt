@@ -1,5 +1,5 @@
 -- Words of the laws about the definitions
-use Rattle.std.specs.Prelude.{◌≡◌, ◌≢◌, ℕ, ◌+◌, ◌<◌, ◌≤◌, ◌*◌, Bool, true, List, [], ◌∷◌, All, IfSome, Option, Some, None, remove, slice_get}
+use Rattle.std.specs.Prelude.{◌≡◌, ◌≢◌, ℕ, ◌+◌, ◌<◌, ◌≤◌, ◌*◌, ◌%◌, Bool, true, List, [], ◌∷◌, All, IfSome, Option, Some, None, remove, slice_get}
 use Rattle.std.specs.Bool.{⊤}
 use Rattle.nv_mem.specs.GuestMap.{everywhere}
 use Rattle.nv_mem.specs.Places.{Place, At, Bucket}
@@ -9,7 +9,7 @@ use Rattle.nv_entry.specs.Status.{StatusField}
 use Rattle.nv_model.specs.Memory.{bytes_from}
 use Rattle.nv_model.specs.Dialogue.{Dialogue, End, Ask}
 use Rattle.nv_model.specs.Judge.{WorkUnit, MoveBlock, ClearBlock, LeaveBlock, KeepAll, Work}
-use Rattle.nv_model.specs.Limits.{block, most_slots}
+use Rattle.nv_model.specs.Limits.{block, most_slots, page}
 use Rattle.nv_model.specs.Queue.{SubmissionQueue, CompletionQueue, cqe_size, sqe_size}
 use Rattle.nv_model.specs.Controller.{Controller}
 use Rattle.nv_model.specs.Private.{After, AtWork, Ended, Private, Progress, Run, Shape, Taken, Unjudged, moved_status}
@@ -117,6 +117,17 @@ IsCompletionInPlace mapped q = IsInOrder q.size q.head q.tail × (everywhere map
 -- each queue of a controller is in order, and its slots are mapped
 abbrev pub QueuesInPlace : (ℕ → Bool) → Controller → Type 0
 QueuesInPlace mapped c = QueuesHave (IsSubmissionInPlace mapped) (IsCompletionInPlace mapped) c
+
+-- a queue begins with a page, so that none of its entries crosses one
+abbrev pub IsSubmissionOnPage : SubmissionQueue → Type 0
+IsSubmissionOnPage q = q.base % page ≡ 0
+
+abbrev pub IsCompletionOnPage : CompletionQueue → Type 0
+IsCompletionOnPage q = q.base % page ≡ 0
+
+-- each queue of a controller begins with a page
+abbrev pub QueuesOnPages : Controller → Type 0
+QueuesOnPages c = QueuesHave IsSubmissionOnPage IsCompletionOnPage c
 
 -- ---- states that look alike
 

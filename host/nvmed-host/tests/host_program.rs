@@ -118,6 +118,24 @@ fn a_set_up_that_is_refused_makes_nothing() {
     assert!(!image.exists());
 }
 
+/// Clients can connect before the drive is there: their sockets go with it.
+#[test]
+fn a_drive_that_cannot_be_opened_leaves_no_socket_behind() {
+    let folder = Folder::new("no-drive");
+    let image = folder.path("no/such/image");
+    let text = configuration(&folder, 2, "").replace("drive ram 16M", &format!("drive ram 16M {}", image.display()));
+    let mut program = Program::start(&folder, &text, &[]);
+    assert_eq!(program.status(), 1);
+    let said = program.said();
+    assert!(
+        said.contains("line 1: the drive: ") && said.contains("no/such/image"),
+        "{said}"
+    );
+    for guest in ["g0", "g1"] {
+        assert!(!folder.path(guest).exists(), "{guest}");
+    }
+}
+
 /// Nobody reads what it says, of which there is much.
 #[test]
 fn lines_that_nobody_reads() {

@@ -5,7 +5,7 @@ ghost use Rattle.nv_model.specs.Queue.{SubmissionQueue, CompletionQueue, ahead, 
 ghost use Rattle.nv_model.specs.Controller.{Controller, Posted, completion_queue, doorbell, front, head_rung, opening, post, ran_out, reg_write, submission_queue, took};
 ghost use Rattle.nv_model.specs.Admin.{Stepped, admin};
 ghost use Rattle.nv_model.specs.Private.{Private, Run, Shape, Step, run_of, start_with};
-ghost use Rattle.nv_model.specs.Laws.{QueuesInOrder};
+ghost use Rattle.nv_model.specs.Laws.{QueuesInOrder, QueuesOnPages};
 
 /// Whatever a controller does, its queues stay in order.
 pub fn queues_stay_in_order()
@@ -20,6 +20,21 @@ pub fn queues_stay_in_order()
     ensures ran_out { (c : Controller) (y : ℕ) → QueuesInOrder c → QueuesInOrder (ran_out c y) }
     ensures admin { (mapped : ℕ → Bool) (blocks : ℕ) (c after : Controller) (memory behind : ℕ → ℕ) →
         QueuesInOrder c → admin mapped blocks c memory ≡ Stepped after behind → QueuesInOrder after }
+{}
+
+/// And each of its queues begins with a page.
+pub fn queues_begin_with_a_page()
+    ensures opening { QueuesOnPages opening }
+    ensures reg_write { (mapped : ℕ → Bool) (c after : Controller) (offset value : ℕ) →
+        QueuesOnPages c → reg_write mapped c offset value ≡ Some after → QueuesOnPages after }
+    ensures doorbell { (c after : Controller) (offset value : ℕ) →
+        QueuesOnPages c → doorbell c offset value ≡ Some after → QueuesOnPages after }
+    ensures took { (c : Controller) (y : ℕ) → QueuesOnPages c → QueuesOnPages (took c y) }
+    ensures post { (c : Controller) (y dw0 cid : ℕ) (st : StatusField) (r : Posted) →
+        QueuesOnPages c → post c y dw0 cid st ≡ Some r → QueuesOnPages r.controller }
+    ensures ran_out { (c : Controller) (y : ℕ) → QueuesOnPages c → QueuesOnPages (ran_out c y) }
+    ensures admin { (mapped : ℕ → Bool) (blocks : ℕ) (c after : Controller) (memory behind : ℕ → ℕ) →
+        QueuesOnPages c → admin mapped blocks c memory ≡ Stepped after behind → QueuesOnPages after }
 {}
 
 /// The queues are in order at the start, whatever memory and blocks have, and after each run.

@@ -112,6 +112,14 @@ pub struct Parts {
     pub reports: Reports,
 }
 
+impl Parts {
+    /// Whether clients connect by themselves.
+    #[must_use]
+    pub fn listens(&self) -> bool {
+        matches!(self.source, Source::Listen(_))
+    }
+}
+
 /// Why a connection is over.
 #[derive(Debug, thiserror::Error)]
 enum Lost {
@@ -364,7 +372,8 @@ impl Guest {
         loop {
             let news = self.outbox.take();
             self.stopped |= news.stop;
-            if news.stop {
+            // the end may have been told while the client was served
+            if self.stopped {
                 return Err(Lost::Stop);
             }
             if news.run_out {

@@ -1,7 +1,8 @@
 use Rattle.std.proofs.Common.{◌≡◌, ◌<◌, ◌∙◌, ℕ, Some, length, slice_get, refl, sym, subst, arith}
 use Rattle.std.proofs.lemmas.Option.{slice_get_read}
 use Rattle.nv_core.proofs.Delegated.{lane-below, rung-nowhere, rung-there, tail-is}
-use Rattle.nv_core.specs.Front.{HasTailMoved, Side, rung_with, tails_of}
+use Rattle.nv_core.specs.Front.{HasTailMoved}
+use Rattle.nv_laws_sound.specs.Side.{Side, rung_with, tails_of}
 use Rattle.nv_world_model.specs.Area.{ring_size}
 use Rattle.nv_core.proofs.delegating.ring.Goals as goal
 

@@ -3,7 +3,7 @@ use Rattle.std.specs.Prelude.{IfSome}
 use Rattle.nv_core.proofs.Delegated.{posts-step, tails-completed}
 use Rattle.nv_core.proofs.DevicePosts.{post-no_slot}
 use Rattle.nv_core.proofs.DeviceSteps.{both-below}
-use Rattle.nv_core.specs.Front.{tails_of}
+use Rattle.nv_laws_sound.specs.Side.{tails_of}
 use Rattle.nv_core.specs.State.{IsStep, State, state_of}
 use Rattle.nv_device.specs.Physical.{done_where, has_ended, held_at}
 use Rattle.nv_device.specs.Posting.{IsPosted}

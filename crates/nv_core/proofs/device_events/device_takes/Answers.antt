@@ -2,7 +2,7 @@ use Rattle.std.proofs.Common.{◌≡◌, ◌<◌, ◌≤◌, ◌∙◌, true, le
 use Rattle.nv_core.proofs.Delegated.{controllers-step, tails-taken}
 use Rattle.nv_core.proofs.DeviceNeeds.{may-take, next-at}
 use Rattle.nv_core.proofs.DeviceTakes.{take-done, take-idle, take-no_device}
-use Rattle.nv_core.specs.Front.{tails_of}
+use Rattle.nv_laws_sound.specs.Side.{tails_of}
 use Rattle.nv_core.specs.State.{State, state_of}
 use Rattle.nv_device.specs.State.{Physical}
 use Rattle.nv_device.specs.Taking.{waits}

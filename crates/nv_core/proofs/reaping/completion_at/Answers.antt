@@ -1,5 +1,5 @@
 use Rattle.std.proofs.Common.{◌≡◌, ◌∙◌, sym, lit<, arith, ◌+◌}
-use Rattle.nv_core.proofs.LastDwords.{read-whole}
+use Rattle.nv_laws_sound.proofs.LastDwords.{read-whole}
 use Rattle.nv_model.proofs.MemoryLemmas.{bytes_from-list}
 use Rattle.nv_model.specs.Memory.{byte_in, bytes_from}
 use Rattle.nv_core.proofs.reaping.completion_at.Goals as goal

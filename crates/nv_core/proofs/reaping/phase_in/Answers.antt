@@ -1,6 +1,6 @@
 use Rattle.std.proofs.Common.{◌≡◌, ◌∙◌, ap, subst, ℕ}
 use Rattle.std.specs.Prelude.{◌↔◌, IsTrue}
-use Rattle.nv_core.proofs.LastDwords.{phase-alone}
+use Rattle.nv_laws_sound.proofs.LastDwords.{phase-alone}
 use Rattle.nv_entry.specs.Completion.{phase_of}
 use Rattle.nv_model.specs.Memory.{byte_in}
 use Rattle.nv_core.proofs.reaping.phase_in.Goals as goal

@@ -1,7 +1,7 @@
 use Rattle.std.proofs.Common.{Bool, Option, ap, arith, false, refl, slice_get, sym, true, ℕ, ◌≡◌, ◌∙◌}
 use Rattle.std.specs.Option.{unwrap_or}
 use Rattle.std.specs.Prelude.{slice_index}
-use Rattle.nv_core.specs.Front.{Side}
+use Rattle.nv_laws_sound.specs.Side.{Side}
 use Rattle.nv_core.specs.Reaping.{answer_of}
 use Rattle.nv_core.specs.Tags.{is_flying}
 use Rattle.nv_entry.specs.Completion.{completion}

@@ -3,7 +3,8 @@ use Rattle.nv_core.specs.Noted.{AreNoted}
 use Rattle.nv_core.proofs.Notes.{noted-set}
 use Rattle.nv_core.proofs.Placed.{act-done, act-nobody, has-controller, made-for}
 use Rattle.nv_core.specs.State.{State}
-use Rattle.nv_core.specs.Front.{IsSideOf, Side}
+use Rattle.nv_core.specs.Front.{IsSideOf}
+use Rattle.nv_laws_sound.specs.Side.{Side}
 use Rattle.nv_core.proofs.KeptStates.{IsKeptOf}
 use Rattle.nv_core.proofs.Sides.{of-side, own-side, own-world, quiet-in, state_in}
 use Rattle.nv_world_model.specs.World.{World}

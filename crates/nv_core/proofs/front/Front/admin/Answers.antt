@@ -5,7 +5,8 @@ use Rattle.nv_core.proofs.Placed.{admin-done, admin-nobody, has-controller, in-p
 use Rattle.nv_core.specs.Seat.{told_by}
 use Rattle.nv_core.specs.State.{State}
 use Rattle.nv_ns.specs.Extents.{blocks_in}
-use Rattle.nv_core.specs.Front.{IsSideOf, Side}
+use Rattle.nv_core.specs.Front.{IsSideOf}
+use Rattle.nv_laws_sound.specs.Side.{Side}
 use Rattle.nv_core.proofs.KeptStates.{IsKeptOf}
 use Rattle.nv_core.proofs.Sides.{of-side, own-side, own-world, quiet-in, state_in}
 use Rattle.nv_world_model.specs.World.{World}

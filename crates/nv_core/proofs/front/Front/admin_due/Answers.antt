@@ -6,7 +6,7 @@ use Rattle.nv_core.specs.State.{State, world_of}
 use Rattle.nv_model.specs.declared.reply.Reply.TheVariants as reply
 use Rattle.nv_world_model.specs.Due.{due}
 use Rattle.nv_world_model.specs.declared.event.Event.TheVariants as event
-use Rattle.nv_core.specs.Front.{Side}
+use Rattle.nv_laws_sound.specs.Side.{Side}
 use Rattle.nv_core.proofs.Sides.{due-side, state_in}
 use Rattle.nv_core.proofs.front.Front.admin_due.Goals as goal
 

@@ -2,7 +2,8 @@ use Rattle.std.proofs.Common.{sym, arith, ◌≡◌, ◌∙◌, ℕ, List, [], S
 use Rattle.nv_core.proofs.GiveUps.{give_up-done, give_up-not}
 use Rattle.nv_core.proofs.GroupWorlds.{all-taken, taken-below, taken-found, taken-here, taken-led}
 use Rattle.nv_core.specs.State.{State}
-use Rattle.nv_core.specs.Front.{IsSideOf, Side}
+use Rattle.nv_core.specs.Front.{IsSideOf}
+use Rattle.nv_laws_sound.specs.Side.{Side}
 use Rattle.nv_core.proofs.Sides.{own-side, own-world, quiet-in, state_in}
 use Rattle.nv_world_model.specs.World.{World}
 use Rattle.nv_world_model.specs.declared.event.Event.TheVariants as event

@@ -1,7 +1,7 @@
 use Rattle.std.proofs.Common.{slice_get, sym, ap, ◌∙◌, arith}
 use Rattle.nv_core.proofs.FullQueues.{all-waiting, full-held, held-with, none-waits}
 use Rattle.nv_core.proofs.GroupWorlds.{looked-up}
-use Rattle.nv_core.specs.Front.{Side}
+use Rattle.nv_laws_sound.specs.Side.{Side}
 use Rattle.nv_core.proofs.front.Front.held_with.Goals as goal
 
 pub returns-clause-all : goal.returns-clause-all

@@ -7,7 +7,8 @@ use Rattle.nv_model.specs.Transcript.{ReadDone}
 use Rattle.nv_model.specs.declared.reply.Reply.TheVariants as reply
 use Rattle.nv_world_model.specs.World.{Command, Taken, tag_changed, World}
 use Rattle.nv_world_model.specs.declared.event.Event.TheVariants as event
-use Rattle.nv_core.specs.Front.{IsSideOf, Side}
+use Rattle.nv_core.specs.Front.{IsSideOf}
+use Rattle.nv_laws_sound.specs.Side.{Side}
 use Rattle.nv_core.proofs.KeptStates.{IsKeptOf}
 use Rattle.nv_core.proofs.Sides.{of-side, own-side, own-world, quiet-in, state_in}
 use Rattle.nv_core.proofs.front.Front.list.Goals as goal

@@ -1,7 +1,8 @@
 use Rattle.std.proofs.Common.{◌≡◌, ℕ, List, Some, inl, inr, length, refl, slice_get}
 use Rattle.nv_core.proofs.Placed.{act-nobody, act-quiet, controller-of, made-for}
 use Rattle.nv_core.proofs.Sides.{of-side, own-side, own-world, quiet-in, state_in}
-use Rattle.nv_core.specs.Front.{IsSideStep, Side}
+use Rattle.nv_core.specs.Front.{IsSideStep}
+use Rattle.nv_laws_sound.specs.Side.{Side}
 use Rattle.nv_core.specs.Kept.{IsLent}
 use Rattle.nv_core.specs.Seat.{IsActed, IsLoaded}
 use Rattle.nv_core.specs.State.{State}

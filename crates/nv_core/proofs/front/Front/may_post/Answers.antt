@@ -1,7 +1,7 @@
 use Rattle.std.proofs.Common.{[], slice_get, sym, ap, ◌∙◌, arith}
 use Rattle.nv_core.proofs.FullQueues.{no-room, none-posted}
 use Rattle.nv_core.proofs.GroupWorlds.{looked-up}
-use Rattle.nv_core.specs.Front.{Side}
+use Rattle.nv_laws_sound.specs.Side.{Side}
 use Rattle.nv_model.specs.Controller.{is_enabled, post}
 use Rattle.nv_world_model.specs.Step.{deciding}
 use Rattle.nv_core.proofs.front.Front.may_post.Goals as goal

@@ -1,7 +1,7 @@
 use Rattle.std.proofs.Common.{◌≡◌, ◌∙◌, ◌<◌, ◌==◌, ℕ, List, ap, arith, false, refl, suc, zero, slice_get, sym}
 use Rattle.std.specs.Int.{bit_at}
 use Rattle.std.proofs.lemmas.Nat.Bits.{bit_at-lt}
-use Rattle.nv_core.specs.Front.{Side}
+use Rattle.nv_laws_sound.specs.Side.{Side}
 use Rattle.nv_tags.proofs.Masks.{among-tags_in}
 use Rattle.nv_tags.proofs.Rows.{is_among}
 use Rattle.nv_core.proofs.front.Front.noted.Goals as goal

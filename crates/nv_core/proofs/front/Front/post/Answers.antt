@@ -8,7 +8,8 @@ use Rattle.nv_core.proofs.Posts.{queues-there, same-lane}
 use Rattle.nv_core.specs.Groups.{tags_changed}
 use Rattle.nv_core.specs.State.{State}
 use Rattle.nv_world_model.specs.World.{Command, Free, Lane, group_in, World}
-use Rattle.nv_core.specs.Front.{IsSideOf, Side}
+use Rattle.nv_core.specs.Front.{IsSideOf}
+use Rattle.nv_laws_sound.specs.Side.{Side}
 use Rattle.nv_core.proofs.KeptStates.{IsKeptOf}
 use Rattle.nv_core.proofs.Sides.{counted-side, of-side, own-side, own-world, quiet-in, state_in}
 use Rattle.nv_world_model.specs.declared.event.Event.TheVariants as event

@@ -7,7 +7,8 @@ use Rattle.nv_model.specs.Controller.{is_enabled, post}
 use Rattle.nv_world_model.specs.Due.{due}
 use Rattle.nv_world_model.specs.World.{Command, World}
 use Rattle.nv_world_model.specs.declared.event.Event.TheVariants as event
-use Rattle.nv_core.specs.Front.{IsSideOf, Side}
+use Rattle.nv_core.specs.Front.{IsSideOf}
+use Rattle.nv_laws_sound.specs.Side.{Side}
 use Rattle.nv_core.proofs.Sides.{due-side, own-side, own-world, state_in}
 use Rattle.nv_core.proofs.front.Front.post_due.Goals as goal
 

@@ -6,7 +6,8 @@ use Rattle.nv_core.proofs.PhasedReaps.{alike, unlike}
 use Rattle.nv_core.proofs.ReapAnswers.{done-told, idle-told, named-flies, not-stray, stray-told}
 use Rattle.nv_core.proofs.Reaps.{aloft, reaped-as}
 use Rattle.nv_core.proofs.Sides.{own, reaped-in}
-use Rattle.nv_core.specs.Front.{IsBeside, IsSideOf, Side}
+use Rattle.nv_core.specs.Front.{IsBeside, IsSideOf}
+use Rattle.nv_laws_sound.specs.Side.{Side}
 use Rattle.nv_core.specs.Kept.{IsLent}
 use Rattle.nv_core.specs.Tags.{state_in as point_in}
 use Rattle.nv_entry.specs.Completion.{cid_of, phase_of}

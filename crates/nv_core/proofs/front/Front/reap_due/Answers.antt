@@ -2,7 +2,8 @@ use Rattle.std.proofs.Common.{◌≡◌, refl, ℕ, ◌+◌, ◌<◌, ◌^◌, �
 use Rattle.nv_core.proofs.Besides.{beside-due, undue-none}
 use Rattle.nv_core.proofs.GroupWorlds.{looked-up}
 use Rattle.nv_core.proofs.ReapAnswers.{waits-told}
-use Rattle.nv_core.specs.Front.{IsBeside, Side}
+use Rattle.nv_core.specs.Front.{IsBeside}
+use Rattle.nv_laws_sound.specs.Side.{Side}
 use Rattle.nv_core.specs.Kept.{IsLent}
 use Rattle.nv_model.specs.Memory.{byte_in, bytes_from}
 use Rattle.nv_model.specs.Queue.{cqe_size}

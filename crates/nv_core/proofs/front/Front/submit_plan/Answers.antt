@@ -3,12 +3,14 @@ use Rattle.std.proofs.lemmas.Option.{slice_get_read}
 use Rattle.nv_core.proofs.GroupWorlds.{taken-below, taken-there}
 use Rattle.nv_core.proofs.Handed.{lane-there}
 use Rattle.nv_core.proofs.PlanSubmits.{come-of, guest-of, tag-of}
-use Rattle.nv_core.proofs.KeptStates.{IsKeptOf, tail-of}
+use Rattle.nv_core.proofs.KeptStates.{IsKeptOf}
+use Rattle.nv_laws_sound.proofs.Tails.{tail-of}
 use Rattle.nv_core.proofs.Sides.{in-each, of-side, own-side, own-world, rung-in, state_in, tail-stays, tail-there}
 use Rattle.nv_core.proofs.SubmitJobs.{one-taken}
 use Rattle.nv_core.proofs.Submits.{have-room, on-device, submit-done}
 use Rattle.nv_core.proofs.Waits.{waits}
-use Rattle.nv_core.specs.Front.{HasTailMoved, IsSideOf, Side}
+use Rattle.nv_core.specs.Front.{HasTailMoved, IsSideOf}
+use Rattle.nv_laws_sound.specs.Side.{Side}
 use Rattle.nv_core.specs.State.{State}
 use Rattle.nv_core.specs.Submit.{HaveRoom, IsCarriedOut, IsSubmitted, WaitsForPlan}
 use Rattle.nv_device.specs.Physical.{lane_of}

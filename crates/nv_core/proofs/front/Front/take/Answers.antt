@@ -6,7 +6,8 @@ use Rattle.nv_core.proofs.GroupWorlds.{looked-up}
 use Rattle.nv_core.proofs.Takes.{take-done, take-no_lane, take-no_queue, take-nobody}
 use Rattle.nv_core.specs.State.{CountsMore, State}
 use Rattle.nv_laws_sound.proofs.Lists.{slice_get-there}
-use Rattle.nv_core.specs.Front.{IsSideOf, Side}
+use Rattle.nv_core.specs.Front.{IsSideOf}
+use Rattle.nv_laws_sound.specs.Side.{Side}
 use Rattle.nv_core.proofs.KeptStates.{IsKeptOf}
 use Rattle.nv_core.proofs.Sides.{of-side, own-side, own-world, quiet-in, state_in}
 use Rattle.nv_world_model.specs.World.{World}

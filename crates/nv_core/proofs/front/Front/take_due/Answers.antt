@@ -8,7 +8,8 @@ use Rattle.nv_laws_sound.proofs.Lists.{slice_get-there}
 use Rattle.nv_model.specs.declared.reply.Reply.TheVariants as reply
 use Rattle.nv_world_model.specs.Due.{due}
 use Rattle.nv_world_model.specs.declared.event.Event.TheVariants as event
-use Rattle.nv_core.specs.Front.{IsSideOf, Side}
+use Rattle.nv_core.specs.Front.{IsSideOf}
+use Rattle.nv_laws_sound.specs.Side.{Side}
 use Rattle.nv_core.proofs.KeptStates.{IsKeptOf}
 use Rattle.nv_core.proofs.Sides.{due-side, of-side, own-side, own-world, state_in}
 use Rattle.nv_world_model.specs.World.{World}

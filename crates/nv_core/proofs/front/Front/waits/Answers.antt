@@ -1,7 +1,7 @@
 use Rattle.std.proofs.Common.{◌<◌, ◌≤◌, ◌∙◌, arith, ap, length, slice_get, sym}
 use Rattle.std.proofs.lemmas.Option.{slice_get_past}
 use Rattle.nv_core.proofs.GroupWorlds.{looked-up}
-use Rattle.nv_core.specs.Front.{Side}
+use Rattle.nv_laws_sound.specs.Side.{Side}
 use Rattle.nv_core.specs.Noted.{has_front}
 use Rattle.nv_core.proofs.front.Front.waits.Goals as goal
 

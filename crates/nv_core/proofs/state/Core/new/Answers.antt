@@ -1,6 +1,6 @@
 use Rattle.std.proofs.Common.{◌∙◌, List, ap, length, sym}
 use Rattle.nv_core.proofs.Delegated.{tails-opening}
-use Rattle.nv_core.specs.Front.{Side, tails_of}
+use Rattle.nv_laws_sound.specs.Side.{Side, tails_of}
 use Rattle.nv_core.specs.State.{State, state_of}
 use Rattle.nv_device.specs.State.{Physical}
 use Rattle.nv_world_model.specs.Geometry.{Geometry}

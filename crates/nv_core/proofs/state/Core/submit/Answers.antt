@@ -1,5 +1,6 @@
 use Rattle.nv_core.proofs.Delegated.{lent-kept, lent-rung, tails-after}
-use Rattle.nv_core.specs.Front.{HasTailMoved, tails_of}
+use Rattle.nv_core.specs.Front.{HasTailMoved}
+use Rattle.nv_laws_sound.specs.Side.{tails_of}
 use Rattle.nv_core.specs.State.{IsStep, state_of}
 use Rattle.nv_device.specs.State.{Physical}
 use Rattle.nv_world_model.specs.declared.event.Event.TheVariants as event

@@ -4,7 +4,8 @@ use Rattle.nv_model.specs.Memory.{byte_in}
 use Rattle.nv_core.proofs.LentHost.{after-lent}
 use Rattle.nv_mem.specs.Lent.{bytes_of_hosts}
 use Rattle.nv_core.proofs.Delegated.{lent-kept, lent-rung, tails-after}
-use Rattle.nv_core.specs.Front.{HasTailMoved, Side, tails_of}
+use Rattle.nv_core.specs.Front.{HasTailMoved}
+use Rattle.nv_laws_sound.specs.Side.{Side, tails_of}
 use Rattle.nv_core.specs.State.{IsStep, State, state_of}
 use Rattle.nv_core.specs.Submit.{IsCurrentIn}
 use Rattle.nv_device.specs.State.{Physical}

@@ -1,7 +1,7 @@
 use Rattle.nv_host.proofs.Made.{made}
 use Rattle.std.proofs.Common.{◌≡◌, ℕ, Bool, List, Some, slice_get, ap, sym, subst, ◌∙◌}
 use Rattle.std.specs.Option.{unwrap_or}
-use Rattle.nv_core.specs.Front.{Side}
+use Rattle.nv_laws_sound.specs.Side.{Side}
 use Rattle.nv_entry.specs.Completion.{cid_of, completion}
 use Rattle.nv_host.proofs.Failed.{fails-each, told-flies}
 use Rattle.nv_host.proofs.Fails.{failed-run, kept-run, laid-there, lane-there, tail-there}

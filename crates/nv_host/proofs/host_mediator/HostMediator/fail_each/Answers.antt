@@ -1,6 +1,6 @@
 use Rattle.nv_host.proofs.Made.{made}
 use Rattle.std.proofs.Common.{ℕ, List, refl, rules, subst, ◌∙◌}
-use Rattle.nv_core.specs.Kept.{IsKept}
+use Rattle.nv_laws_sound.specs.Side.{IsKept}
 use Rattle.nv_host.proofs.Failed.{all-failed, alone-same, alone-twice}
 use Rattle.nv_host.proofs.Ring.{ring-same, ring-twice}
 use Rattle.nv_host.proofs.Runs.{idle-twice, lead-same}

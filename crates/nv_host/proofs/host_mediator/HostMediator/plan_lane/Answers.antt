@@ -1,5 +1,5 @@
 use Rattle.std.proofs.Common.{◌≡◌, ◌∙◌, ℕ, refl, slice_get}
-use Rattle.nv_core.specs.Front.{Side}
+use Rattle.nv_laws_sound.specs.Side.{Side}
 use Rattle.nv_core.specs.Tags.{taken_in}
 use Rattle.nv_host.proofs.Made.{made}
 use Rattle.nv_host.proofs.Rounds.{after-fits}

@@ -1,0 +1,15 @@
+pub mod Effects
+pub mod Hosts
+pub mod InWorlds
+pub mod Cases
+pub mod TakeCalls
+pub mod OwnPages
+pub mod Posted
+pub mod SubmitCalls
+pub mod ReapCalls
+pub mod PostCalls
+pub mod ActCalls
+pub mod AdminDone
+pub mod AdminCalls
+pub mod EventCalls
+pub mod Writes

@@ -1,0 +1,4 @@
+//! Laws about the machine, as functions that do nothing: each contract is a law.
+pub mod containment;
+pub mod effects;
+pub mod worlds;

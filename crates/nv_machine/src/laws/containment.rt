@@ -1,0 +1,21 @@
+//! Whatever was fetched, a call touches nothing of another guest.
+
+ghost use Rattle.std.specs.Prelude.{◌≡◌, ℕ, List, Some, None, slice_get};
+ghost use Rattle.nv_laws_sound.specs.Mediators.{IsMediators};
+ghost use Rattle.nv_laws_sound.specs.Side.{IsKept, opening_side};
+ghost use Rattle.nv_machine.specs.Contained.{AreFetched, IsContained, IsFetched, after_calls};
+ghost use Rattle.nv_machine.specs.InWorld.{AreOnPages};
+ghost use Rattle.nv_mem.specs.GuestMap.{IsSound};
+ghost use Rattle.nv_world_model.specs.Geometry.{Guest};
+ghost use Rattle.nv_world_model.specs.SetUp.{SetUp, host_refusal_of};
+ghost use Rattle.nv_world_model.specs.declared.event.Event.{Event};
+
+/// From the start of any set-up that is not refused, whichever calls were made and whichever bytes were fetched for them, each call is contained: neither
+/// what else is in memory, nor what guests and the physical controller do meanwhile, nor what the controller answers, is a premise.
+pub fn each_call_is_contained()
+    ensures { (s : SetUp) (calls : List (Event × List ℕ)) (e : Event) (fetched : List ℕ) → host_refusal_of s ≡ None →
+        ((number : ℕ) (guest : Guest) → slice_get s.geometry.guests number ≡ Some guest → IsSound guest.memory_map) →
+        AreFetched s.geometry calls (opening_side s.geometry s.lanes) →
+        IsFetched s.geometry e (after_calls s.geometry calls (opening_side s.geometry s.lanes)) fetched →
+        IsContained s.geometry e fetched (after_calls s.geometry calls (opening_side s.geometry s.lanes)) }
+{}
