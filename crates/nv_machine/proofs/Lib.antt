@@ -13,3 +13,7 @@ pub mod AdminDone
 pub mod AdminCalls
 pub mod EventCalls
 pub mod Writes
+pub mod OwnEntries
+pub mod Elims
+pub mod OwnStores
+pub mod Orders

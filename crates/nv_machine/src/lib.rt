@@ -8,3 +8,4 @@
 #![tactic(auto)]
 
 pub mod laws;
+pub mod rows;
