@@ -63,9 +63,14 @@ stores-two given p sound placed =
     let to : row.0 + 0 ≡ row.0 = omega arith in
     let first : host_of (regions_of given) p.addr ≡ Some row.0 =
     ap (host_of (regions_of given)) from ∙ row.1.contiguous 0 (omega arith) ∙ ap (λ (h : ℕ). Some h) to in
-    let second : host_of (regions_of given) (p.addr + 12) ≡ Some (row.0 + 12) = row.1.contiguous 12 (omega arith) in
-    (row.0, (first, ap (λ o. store_at o (take 12 p.entry) ++ store_at (host_of (regions_of given) (p.addr + 12)) (drop 12 p.entry)) first
-        ∙ ap (λ o. Store row.0 (take 12 p.entry) ∷ store_at o (drop 12 p.entry)) second))
+    let second : host_of (regions_of given) (p.addr + 12) ≡ Some (row.0 + 12) = row.1.contiguous 12 (omega arith) in (
+      row.0,
+      (
+        first,
+        ap (λ o. store_at o (take 12 p.entry) ++ store_at (host_of (regions_of given) (p.addr + 12)) (drop 12 p.entry)) first
+            ∙ ap (λ o. Store row.0 (take 12 p.entry) ∷ store_at o (drop 12 p.entry)) second,
+      ),
+    )
 
 -- so data and a completion end with it
 ends-with : (IsData : Effect → Type 0) (given : Guest) (p : Posted) (before : List Effect) → IsSound given.memory_map → IsPlaced given (Some p) → All IsData before

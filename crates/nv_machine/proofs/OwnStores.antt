@@ -150,8 +150,19 @@ submit-shares geometry s lane leader fetched kept =
     (let effects : List Effect = share_effects share given command.entry geometry.mediator lane tag slot in
     All-weaker (Contains effects) (IsOfShare geometry s lane leader) (λ effect among.
     record {
-      command = command; reads = reads; taken = there; given = given; owner = owner; share = share; planned = planned; some = some;
-      tag = tag; tag_below = tag_below; slot = slot; slot_below = slot_below; among = among;
+      command = command;
+      reads = reads;
+      taken = there;
+      given = given;
+      owner = owner;
+      share = share;
+      planned = planned;
+      some = some;
+      tag = tag;
+      tag_below = tag_below;
+      slot = slot;
+      slot_below = slot_below;
+      among = among;
     }) effects (All-contains_itself effects)))
 
 -- ---- rings
