@@ -9,3 +9,6 @@ pub mod SubmitCalls
 pub mod ReapCalls
 pub mod PostCalls
 pub mod Writes
+pub mod ActCalls
+pub mod AdminDone
+pub mod AdminCalls
