@@ -12,3 +12,5 @@ pub mod Writes
 pub mod ActCalls
 pub mod AdminDone
 pub mod AdminCalls
+pub mod CallWalks
+pub mod ContainedFetch

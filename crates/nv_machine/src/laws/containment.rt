@@ -1,12 +1,13 @@
 //! Whatever was fetched, a call touches nothing of another guest.
 
-ghost use Rattle.std.specs.Prelude.{◌≡◌, ℕ, List, Some, None, slice_get};
+ghost use Rattle.std.specs.Prelude.{◌≡◌, ℕ, List, Some, None, slice_get, All};
 ghost use Rattle.nv_laws_sound.specs.Mediators.{IsMediators};
-ghost use Rattle.nv_laws_sound.specs.Side.{IsKept, opening_side};
-ghost use Rattle.nv_machine.specs.Contained.{AreFetched, IsContained, IsFetched, after_calls};
+ghost use Rattle.nv_laws_sound.specs.Side.{IsKept, Side, opening_side};
+ghost use Rattle.nv_machine.specs.Contained.{AreFetched, IsContained, IsFetched, MayFetch, after_calls, guest_for};
+ghost use Rattle.nv_machine.specs.Machine.{fetch, fetch_then};
 ghost use Rattle.nv_machine.specs.InWorld.{AreOnPages};
 ghost use Rattle.nv_mem.specs.GuestMap.{IsSound};
-ghost use Rattle.nv_world_model.specs.Geometry.{Guest};
+ghost use Rattle.nv_world_model.specs.Geometry.{Geometry, Guest};
 ghost use Rattle.nv_world_model.specs.SetUp.{SetUp, host_refusal_of};
 ghost use Rattle.nv_world_model.specs.declared.event.Event.{Event};
 
@@ -18,4 +19,14 @@ pub fn each_call_is_contained()
         AreFetched s.geometry calls (opening_side s.geometry s.lanes) →
         IsFetched s.geometry e (after_calls s.geometry calls (opening_side s.geometry s.lanes)) fetched →
         IsContained s.geometry e fetched (after_calls s.geometry calls (opening_side s.geometry s.lanes)) }
+{}
+
+/// What is fetched for a call is the owner's, whatever the mediator's side is.
+pub fn what_is_fetched_is_the_owners()
+    ensures first { (geometry : Geometry) (s : Side) (e : Event) (fetched : List ℕ) →
+        ((number : ℕ) (guest : Guest) → slice_get geometry.guests number ≡ Some guest → IsSound guest.memory_map) →
+        All (MayFetch geometry e s (guest_for e fetched s)) (fetch geometry e s) }
+    ensures then { (geometry : Geometry) (s : Side) (e : Event) (fetched first : List ℕ) →
+        ((number : ℕ) (guest : Guest) → slice_get geometry.guests number ≡ Some guest → IsSound guest.memory_map) →
+        All (MayFetch geometry e s (guest_for e fetched s)) (fetch_then geometry e s first) }
 {}
