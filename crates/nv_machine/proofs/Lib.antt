@@ -14,3 +14,6 @@ pub mod AdminDone
 pub mod AdminCalls
 pub mod CallWalks
 pub mod ContainedFetch
+pub mod SideWorlds
+pub mod OwnTags
+pub mod ContainedOthers

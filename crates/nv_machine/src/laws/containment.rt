@@ -3,8 +3,8 @@
 ghost use Rattle.std.specs.Prelude.{◌≡◌, ℕ, List, Some, None, slice_get, All};
 ghost use Rattle.nv_laws_sound.specs.Mediators.{IsMediators};
 ghost use Rattle.nv_laws_sound.specs.Side.{IsKept, Side, opening_side};
-ghost use Rattle.nv_machine.specs.Contained.{AreFetched, IsContained, IsFetched, MayFetch, after_calls, guest_for};
-ghost use Rattle.nv_machine.specs.Machine.{fetch, fetch_then};
+ghost use Rattle.nv_machine.specs.Contained.{AreFetched, IsContained, IsFetched, LeavesOthers, MayFetch, after_calls, guest_for};
+ghost use Rattle.nv_machine.specs.Machine.{call, fetch, fetch_then};
 ghost use Rattle.nv_machine.specs.InWorld.{AreOnPages};
 ghost use Rattle.nv_mem.specs.GuestMap.{IsSound};
 ghost use Rattle.nv_world_model.specs.Geometry.{Geometry, Guest};
@@ -29,4 +29,10 @@ pub fn what_is_fetched_is_the_owners()
     ensures then { (geometry : Geometry) (s : Side) (e : Event) (fetched first : List ℕ) →
         ((number : ℕ) (guest : Guest) → slice_get geometry.guests number ≡ Some guest → IsSound guest.memory_map) →
         All (MayFetch geometry e s (guest_for e fetched s)) (fetch_then geometry e s first) }
+{}
+
+/// temp
+pub fn others_temp()
+    ensures { (geometry : Geometry) (s : Side) (e : Event) (fetched : List ℕ) → IsKept geometry s →
+        LeavesOthers (guest_for e fetched s) s (call geometry e fetched s).now.side }
 {}
