@@ -17,3 +17,4 @@ pub mod ContainedFetch
 pub mod SideWorlds
 pub mod OwnTags
 pub mod ContainedOthers
+pub mod OwnEffects

@@ -36,3 +36,9 @@ pub fn others_temp()
     ensures { (geometry : Geometry) (s : Side) (e : Event) (fetched : List ℕ) → IsKept geometry s →
         LeavesOthers (guest_for e fetched s) s (call geometry e fetched s).now.side }
 {}
+
+/// temp
+pub fn effects_temp()
+    ensures { (geometry : Geometry) (s : Side) (e : Event) (fetched : List ℕ) → IsKept geometry s →
+        LeavesOthers (guest_for e fetched s) s (call geometry e fetched s).now.side }
+{}
