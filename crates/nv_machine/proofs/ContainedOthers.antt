@@ -257,7 +257,7 @@ read-tags lanes lane l at other tag = by (other == lane) refl
         (ap (λ (x : Option Lane). tag_in x tag) (slice_get-set lanes lane l (step.completion_read l) at)
         ∙ ap (λ (x : Option Lane). tag_in x tag) (sym at))
 
-ended-has : (command : Command) (st : StatusField) (share : Option Share) → command_of (part_of (Ended command st share)) ≡ Some command
+pub ended-has : (command : Command) (st : StatusField) (share : Option Share) → command_of (part_of (Ended command st share)) ≡ Some command
 ended-has command st None = refl
 ended-has command st (Some share) = refl
 
@@ -319,7 +319,7 @@ module _ (geometry : Geometry) (s : Side) (kept : IsKept geometry s) where
       (at_once-leaves lane command (group_at s lane tag) (done_with InternalError) (begun s)
       (group-apart lane tag (Taken command reads) command there refl leads)))
   others-left (event.DevTake lane) fetched = leaves-all _ s
-  others-left (event.DevMove lane slot number) fetched = leaves-all _ s
+  others-left (event.DevMove lane slot unit) fetched = leaves-all _ s
   others-left (event.DevPost lane slot) fetched = leaves-all _ s
   others-left (event.DevFail lane slot st) fetched = leaves-all _ s
   others-left (event.Keep block) fetched = leaves-all _ s

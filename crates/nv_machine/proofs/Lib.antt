@@ -18,3 +18,5 @@ pub mod SideWorlds
 pub mod OwnTags
 pub mod ContainedOthers
 pub mod OwnEffects
+pub mod SubmitEffects
+pub mod ContainedEffects

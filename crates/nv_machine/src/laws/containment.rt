@@ -1,9 +1,10 @@
 //! Whatever was fetched, a call touches nothing of another guest.
 
 ghost use Rattle.std.specs.Prelude.{◌≡◌, ℕ, List, Some, None, slice_get, All};
+ghost use Rattle.nv_laws_sound.specs.LaidOut.{IsLaidOut};
 ghost use Rattle.nv_laws_sound.specs.Mediators.{IsMediators};
 ghost use Rattle.nv_laws_sound.specs.Side.{IsKept, Side, opening_side};
-ghost use Rattle.nv_machine.specs.Contained.{AreFetched, IsContained, IsFetched, LeavesOthers, MayFetch, after_calls, guest_for};
+ghost use Rattle.nv_machine.specs.Contained.{AreFetched, IsContained, IsFetched, LeavesOthers, MayDo, MayFetch, after_calls, guest_for};
 ghost use Rattle.nv_machine.specs.Machine.{call, fetch, fetch_then};
 ghost use Rattle.nv_machine.specs.InWorld.{AreOnPages};
 ghost use Rattle.nv_mem.specs.GuestMap.{IsSound};
@@ -39,6 +40,7 @@ pub fn others_temp()
 
 /// temp
 pub fn effects_temp()
-    ensures { (geometry : Geometry) (s : Side) (e : Event) (fetched : List ℕ) → IsKept geometry s →
-        LeavesOthers (guest_for e fetched s) s (call geometry e fetched s).now.side }
+    ensures { (host_bytes lanes : ℕ) (geometry : Geometry) (s : Side) (e : Event) (fetched : List ℕ) → IsLaidOut host_bytes lanes geometry →
+        IsKept geometry s → AreOnPages s.controllers →
+        All (MayDo geometry s (call geometry e fetched s).now.side (guest_for e fetched s)) (call geometry e fetched s).now.effects }
 {}
