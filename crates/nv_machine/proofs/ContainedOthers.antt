@@ -7,6 +7,7 @@ use Rattle.nv_entry.specs.Status.{StatusField}
 use Rattle.nv_entry.specs.StatusCode.{done_with}
 use Rattle.nv_entry.specs.Submission.{cid_of, fuse_of}
 use Rattle.nv_entry.specs.declared.status_code.StatusCode.TheVariants.{InternalError, Success}
+use Rattle.nv_laws_sound.proofs.Lists.{length-set}
 use Rattle.nv_laws_sound.proofs.Numbers.{Passes, numbers-pass, numbers_where}
 use Rattle.nv_laws_sound.proofs.Takes.{claimed-is}
 use Rattle.nv_laws_sound.specs.Groups.{command_of, part_of}
@@ -20,7 +21,7 @@ use Rattle.nv_machine.specs.Machine.{share_effects, ready_done, reap, reaped_by,
 use Rattle.nv_machine.proofs.CallWalks.{IsNamed, either, ended-walk, one-walk, owner-walk, owner_in-named, taken-walk}
 use Rattle.nv_machine.proofs.Cases.{tag-lane}
 use Rattle.nv_machine.proofs.OwnTags.{AreOthersNone, IsGuestsTag, IsOthersNone, Leaves, controller-leaves, group-guests, group-others, guests-none, leaves-all}
-use Rattle.nv_machine.proofs.OwnTags.{leaves-both, leaves-then, none-kept, tag-leaves, tags-leave, free-none}
+use Rattle.nv_machine.proofs.OwnTags.{LeavesRest, leaves-both, leaves-then, none-kept, tag-leaves, tags-leave, free-none}
 use Rattle.nv_machine.proofs.SideWorlds.{begun}
 use Rattle.nv_mem.specs.GuestMap.{all_mapped}
 use Rattle.nv_model.specs.Admin.{AdminEffect, admin_command, answered, is_queue_full}
@@ -168,7 +169,11 @@ module _ (lane : ℕ) (command : Command) where
     submitted-leaves (Some tail) tag share m none =
         let z : Doing = tail_put lane (next_slot ring_size tail) (told (share_effects share o.given command.entry mediator lane tag tail) m) in
         let t : Tag = Flying command share (Queued tail) in
-        leaves-then number m.side z.side (tag_put lane tag t z).side (record { controllers = λ other apart. refl; tags = λ other at n apart. refl })
+        leaves-then number m.side z.side (tag_put lane tag t z).side (record {
+          controllers = λ other apart. refl;
+          tags = λ other at n apart. refl;
+          many = length-set m.side.tails lane (next_slot ring_size tail);
+        })
         (tag-leaves number lane tag t z none (guests-none number t refl))
 
     tag-carried : (tag : ℕ) (share : Share) (m : Doing) → IsOthersNone number (tag_at m.side lane tag)
@@ -235,7 +240,7 @@ module _ (lane : ℕ) (command : Command) where
 
 -- a completion that is read ends its tag, where that was handed on
 ended-leaves : (t : Option Tag) (st : StatusField) (lane tag : ℕ) (m : Doing) → tag_at m.side lane tag ≡ t
-    → LeavesOthers (guest_of_one t) m.side (ended_at t st lane tag m).side
+    → LeavesRest (guest_of_one t) m.side (ended_at t st lane tag m).side
 ended-leaves None st lane tag m at = leaves-all None m.side
 ended-leaves (Some Free) st lane tag m at = leaves-all None m.side
 ended-leaves (Some (Taken command reads)) st lane tag m at = leaves-all (Some command.guest) m.side
@@ -263,7 +268,7 @@ ended-has command st (Some share) = refl
 
 module _ (geometry : Geometry) (s : Side) (kept : IsKept geometry s) where
   abbrev Fine : Option ℕ → Doing → Type 0
-  Fine number m = LeavesOthers number s m.side
+  Fine number m = LeavesRest number s m.side
 
   group-apart : (lane tag : ℕ) (t : Tag) (command : Command) → tag_at s lane tag ≡ Some t → command_of (part_of t) ≡ Some command → command.leader ≡ tag
       → AreOthersNone command.guest lane s (group_at s lane tag)
@@ -273,24 +278,24 @@ module _ (geometry : Geometry) (s : Side) (kept : IsKept geometry s) where
       (group-guests geometry s lane tag l.0 t command l.1.0 (kept.lanes lane l.0 l.1.0).groups l.1.1 has leads)
 
   -- one of those that are named by a tag
-  by-tag : (t : Option Tag) (x : Tag) (m : Doing) → t ≡ Some x → LeavesOthers (guest_of_tag x) s m.side → LeavesOthers (guest_of_one t) s m.side
-  by-tag t x m is leaves = subst (λ (o : Option Tag). LeavesOthers (guest_of_one o) s m.side) (sym is) leaves
+  by-tag : (t : Option Tag) (x : Tag) (m : Doing) → t ≡ Some x → LeavesRest (guest_of_tag x) s m.side → LeavesRest (guest_of_one t) s m.side
+  by-tag t x m is leaves = subst (λ (o : Option Tag). LeavesRest (guest_of_one o) s m.side) (sym is) leaves
 
-  pub others-left : (e : Event) (fetched : List ℕ) → Fine (guest_for e fetched s) (call geometry e fetched s).now
+  pub rest-left : (e : Event) (fetched : List ℕ) → Fine (guest_for e fetched s) (call geometry e fetched s).now
   unfolding called
-  others-left (event.Guest guest a) fetched =
+  rest-left (event.Guest guest a) fetched =
       one-walk (Fine (Some guest)) (begun s) (leaves-all (Some guest) s) (owner_in geometry s guest) _ (λ o whose.
       subst (λ (n : ℕ). Leaves n s (acted_in a fetched o (begun s)).now.side) (sym (owner_in-named geometry s guest o whose).same) (acted-leaves o (begun s) a fetched))
-  others-left (event.Admin guest) fetched =
+  rest-left (event.Admin guest) fetched =
       one-walk (Fine (Some guest)) (begun s) (leaves-all (Some guest) s) (owner_in geometry s guest) _ (λ o whose.
       subst (λ (n : ℕ). Leaves n s (administered_in fetched o (begun s)).now.side) (sym (owner_in-named geometry s guest o whose).same)
       (administered-leaves o (begun s) fetched))
-  others-left (event.Take guest queue lane) fetched =
+  rest-left (event.Take guest queue lane) fetched =
       one-walk (Fine (Some guest)) (begun s) (leaves-all (Some guest) s) (owner_in geometry s guest) _ (λ o whose.
       one-walk (Fine (Some guest)) (begun s) (leaves-all (Some guest) s) (slice_get s.lanes lane) (λ l. take_from queue lane l fetched o (begun s)) (λ l at.
       subst (λ (n : ℕ). Leaves n s (take_from queue lane l fetched o (begun s)).now.side) (sym (owner_in-named geometry s guest o whose).same)
       (taken-leaves o (begun s) lane queue l fetched at)))
-  others-left (event.List lane tag addr len) fetched =
+  rest-left (event.List lane tag addr len) fetched =
       let Mine : Doing → Type 0 = Fine (guest_of_one (tag_at s lane tag)) in
       let stay : Mine (begun s) = leaves-all (guest_of_one (tag_at s lane tag)) s in
       taken-walk Mine (begun s) stay tag (tag_at s lane tag) _ (λ command reads there leads.
@@ -301,7 +306,7 @@ module _ (geometry : Geometry) (s : Side) (kept : IsKept geometry s) where
       (tag-leaves command.guest lane tag (Taken command _) (begun s)
       (subst (IsOthersNone command.guest) (sym there) (guests-none command.guest (Taken command reads) refl)) (guests-none command.guest (Taken command _) refl)))
       (λ no. stay)) (λ no. stay)))
-  others-left (event.Submit lane tag) fetched =
+  rest-left (event.Submit lane tag) fetched =
       let Mine : Doing → Type 0 = Fine (guest_of_one (tag_at s lane tag)) in
       let stay : Mine (begun s) = leaves-all (guest_of_one (tag_at s lane tag)) s in
       taken-walk Mine (begun s) stay tag (tag_at s lane tag) _ (λ command reads there leads.
@@ -312,18 +317,18 @@ module _ (geometry : Geometry) (s : Side) (kept : IsKept geometry s) where
       (submit_by (plan_over o.given command.entry reads) geometry.mediator lane (group_at s lane tag) command o (begun s)).now there
       (outcome-leaves lane command geometry.mediator o (group_at s lane tag) (begun s) (group-apart lane tag (Taken command reads) command there refl leads)
       (plan_over o.given command.entry reads)))))
-  others-left (event.GiveUp lane tag) fetched =
+  rest-left (event.GiveUp lane tag) fetched =
       let Mine : Doing → Type 0 = Fine (guest_of_one (tag_at s lane tag)) in
       taken-walk Mine (begun s) (leaves-all (guest_of_one (tag_at s lane tag)) s) tag (tag_at s lane tag) _ (λ command reads there leads.
       by-tag (tag_at s lane tag) (Taken command reads) (ended_at_once lane (group_at s lane tag) command (done_with InternalError) (begun s)) there
       (at_once-leaves lane command (group_at s lane tag) (done_with InternalError) (begun s)
       (group-apart lane tag (Taken command reads) command there refl leads)))
-  others-left (event.DevTake lane) fetched = leaves-all _ s
-  others-left (event.DevMove lane slot unit) fetched = leaves-all _ s
-  others-left (event.DevPost lane slot) fetched = leaves-all _ s
-  others-left (event.DevFail lane slot st) fetched = leaves-all _ s
-  others-left (event.Keep block) fetched = leaves-all _ s
-  others-left (event.Reap lane) fetched =
+  rest-left (event.DevTake lane) fetched = leaves-all _ s
+  rest-left (event.DevMove lane slot unit) fetched = leaves-all _ s
+  rest-left (event.DevPost lane slot) fetched = leaves-all _ s
+  rest-left (event.DevFail lane slot st) fetched = leaves-all _ s
+  rest-left (event.Keep block) fetched = leaves-all _ s
+  rest-left (event.Reap lane) fetched =
       let cid : ℕ = completed_cid (in_order fetched) in
       let Mine : Doing → Type 0 = Fine (guest_of_one (tag_at s lane cid)) in
       let stay : Mine (begun s) = leaves-all (guest_of_one (tag_at s lane cid)) s in
@@ -333,7 +338,7 @@ module _ (geometry : Geometry) (s : Side) (kept : IsKept geometry s) where
       (λ old. stay))
     where
       read-leaves : (lane cid : ℕ) (l : Lane) (st : StatusField) → slice_get s.lanes lane ≡ Some l
-          → LeavesOthers (guest_of_one (tag_at s lane cid)) s
+          → LeavesRest (guest_of_one (tag_at s lane cid)) s
           (ended_at (slice_get l.tags cid) st lane cid (lane_changed lane step.completion_read (begun s))).side
       read-leaves lane cid l st at =
           let z : Doing = lane_changed lane step.completion_read (begun s) in
@@ -341,10 +346,10 @@ module _ (geometry : Geometry) (s : Side) (kept : IsKept geometry s) where
           ap (λ (x : Option Lane). tag_in (slice_get (changed_at x lane step.completion_read s.lanes) other) tag) at ∙ read-tags s.lanes lane l at other tag in
           let here : tag_at s lane cid ≡ slice_get l.tags cid = ap (λ (x : Option Lane). tag_in x cid) at in
           leaves-both (guest_of_one (tag_at s lane cid)) s z.side (ended_at (slice_get l.tags cid) st lane cid z).side
-          (record { controllers = λ other apart. refl; tags = λ other at n apart. ap (own_tag other) (same at n) })
-          (subst (λ (o : Option Tag). LeavesOthers (guest_of_one o) z.side (ended_at (slice_get l.tags cid) st lane cid z).side) (sym here)
+          (record { controllers = λ other apart. refl; tags = λ other at n apart. ap (own_tag other) (same at n); many = refl })
+          (subst (λ (o : Option Tag). LeavesRest (guest_of_one o) z.side (ended_at (slice_get l.tags cid) st lane cid z).side) (sym here)
           (ended-leaves (slice_get l.tags cid) st lane cid z (same lane cid ∙ here)))
-  others-left (event.Post lane tag) fetched =
+  rest-left (event.Post lane tag) fetched =
       let Mine : Doing → Type 0 = Fine (guest_of_one (tag_at s lane tag)) in
       let stay : Mine (begun s) = leaves-all (guest_of_one (tag_at s lane tag)) s in
       ended-walk Mine (begun s) stay tag (tag_at s lane tag) _ (λ command st share there leads.
@@ -355,3 +360,6 @@ module _ (geometry : Geometry) (s : Side) (kept : IsKept geometry s) where
       (all-leaves lane command geometry.mediator o (sym (owner_in-named geometry s command.guest o whose).same) (group_at s lane tag) (begun s)
       (group-apart lane tag (Ended command st share) command there (ended-has command st share) leads)
       (statuses_of lane (group_at s lane tag) s))))
+
+  pub others-left : (e : Event) (fetched : List ℕ) → LeavesOthers (guest_for e fetched s) s (call geometry e fetched s).now.side
+  others-left e fetched = let rest = rest-left e fetched in record { controllers = rest.controllers; tags = rest.tags }

@@ -1,5 +1,5 @@
 -- Changes of a guest's own tags, and of its controller, leave what is another's.
-use Rattle.std.proofs.Common.{◌≡◌, ◌≢◌, ℕ, Bool, true, false, cond, ◌==◌, List, [], ◌∷◌, set, slice_get, All, Option, Some, None}
+use Rattle.std.proofs.Common.{◌≡◌, ◌≢◌, ℕ, Bool, true, false, cond, ◌==◌, List, [], ◌∷◌, length, set, slice_get, All, Option, Some, None}
 use Rattle.std.proofs.Common.{zero, suc, refl, sym, ap, ◌∙◌, subst, eqb-true}
 use Rattle.std.proofs.lemmas.Bool.{ne_eqb}
 use Rattle.std.proofs.lemmas.List.Elements.{All-head, All-nil, All-tail, All-weaker}
@@ -7,7 +7,6 @@ use Rattle.nv_laws_sound.specs.Groups.{AreGroups, command_of, goes_by, part_of, 
 use Rattle.nv_laws_sound.specs.Side.{IsKept, Side}
 use Rattle.nv_laws_sound.proofs.Folds.{HasTag, group-has, tag-part}
 use Rattle.nv_laws_sound.proofs.Groupings.{group-command}
-use Rattle.nv_machine.specs.Contained.{LeavesOthers}
 use Rattle.nv_machine.specs.Doing.{Doing, controller_put, group_at, tag_at, tag_put, tags_put}
 use Rattle.nv_machine.proofs.SideWorlds.{world_with}
 use Rattle.nv_model.specs.Controller.{Controller}
@@ -76,17 +75,24 @@ module _ (other lane tag : ℕ) (t : Tag) (now : own_tag other (Some t) ≡ None
 
 -- ---- what is left alone
 
+-- what is another's is as before, and there are as many rings
+pub record LeavesRest (number : Option ℕ) (s after : Side) : Type 0 where
+  pub controllers : (other : ℕ) → number ≢ Some other → slice_get after.controllers other ≡ slice_get s.controllers other
+  pub tags : (other lane tag : ℕ) → number ≢ Some other → own_tag other (tag_at after lane tag) ≡ own_tag other (tag_at s lane tag)
+  pub many : length after.tails ≡ length s.tails
+
 abbrev pub Leaves : (number : ℕ) → (s after : Side) → Type 0
-Leaves number s after = LeavesOthers (Some number) s after
+Leaves number s after = LeavesRest (Some number) s after
 
-pub leaves-all : (number : Option ℕ) (s : Side) → LeavesOthers number s s
-leaves-all number s = record { controllers = λ other apart. refl; tags = λ other lane tag apart. refl }
+pub leaves-all : (number : Option ℕ) (s : Side) → LeavesRest number s s
+leaves-all number s = record { controllers = λ other apart. refl; tags = λ other lane tag apart. refl; many = refl }
 
-pub leaves-both : (number : Option ℕ) (s t u : Side) → LeavesOthers number s t → LeavesOthers number t u → LeavesOthers number s u
+pub leaves-both : (number : Option ℕ) (s t u : Side) → LeavesRest number s t → LeavesRest number t u → LeavesRest number s u
 leaves-both number s t u first second =
     record {
       controllers = (λ other apart. second.controllers other apart ∙ first.controllers other apart);
       tags = (λ other lane tag apart. second.tags other lane tag apart ∙ first.tags other lane tag apart);
+      many = second.many ∙ first.many;
     }
 
 pub leaves-then : (number : ℕ) (s t u : Side) → Leaves number s t → Leaves number t u → Leaves number s u
@@ -99,6 +105,7 @@ controller-leaves number c m =
       controllers = (λ other apart. slice_get-set-other m.side.controllers number other c
           (ne_eqb other number (λ same. apart (ap (λ (n : ℕ). Some n) (sym same)))));
       tags = (λ other lane tag apart. refl);
+      many = refl;
     }
 
 -- a tag that was no other's and is none
@@ -109,6 +116,7 @@ tag-leaves number lane tag t m was now =
       controllers = (λ other apart. refl);
       tags = (λ other at n apart.
           same-lanes other lane tag t (now other apart) m.side.lanes (slice_get m.side.lanes lane) refl (was other apart) at n);
+      many = refl;
     }
 
 -- of a lane these tags are no other's
