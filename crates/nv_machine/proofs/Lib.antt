@@ -20,3 +20,4 @@ pub mod ContainedOthers
 pub mod OwnEffects
 pub mod SubmitEffects
 pub mod ContainedEffects
+pub mod PagesKept

@@ -44,3 +44,10 @@ pub fn effects_temp()
         IsKept geometry s → AreOnPages s.controllers →
         All (MayDo geometry s (call geometry e fetched s).now.side (guest_for e fetched s)) (call geometry e fetched s).now.effects }
 {}
+
+/// temp
+pub fn pages_temp()
+    ensures { (host_bytes lanes : ℕ) (geometry : Geometry) (s : Side) (e : Event) (fetched : List ℕ) → IsLaidOut host_bytes lanes geometry →
+        IsKept geometry s → AreOnPages s.controllers →
+        All (MayDo geometry s (call geometry e fetched s).now.side (guest_for e fetched s)) (call geometry e fetched s).now.effects }
+{}
