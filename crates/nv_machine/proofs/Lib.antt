@@ -21,3 +21,5 @@ pub mod OwnEffects
 pub mod SubmitEffects
 pub mod ContainedEffects
 pub mod PagesKept
+pub mod FetchedHosts
+pub mod Reached
