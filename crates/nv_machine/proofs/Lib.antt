@@ -23,3 +23,4 @@ pub mod ContainedEffects
 pub mod PagesKept
 pub mod FetchedHosts
 pub mod Reached
+pub mod ContainedCalls
