@@ -1,5 +1,5 @@
 -- The ways through a call: what holds of the call as it is under way, and where something is done holds behind that, holds behind the call.
-use Rattle.std.proofs.Common.{◌≡◌, ℕ, Bool, true, false, cond, ◌==◌, List, [], ◌∷◌, slice_get, Option, Some, None, eqb-true, refl, sym, subst}
+use Rattle.std.proofs.Common.{◌≡◌, ℕ, Bool, true, false, cond, ◌==◌, List, [], ◌∷◌, slice_get, Option, Some, None, eqb-true, refl, subst}
 use Rattle.nv_entry.specs.Status.{StatusField}
 use Rattle.nv_laws_sound.specs.Side.{Side}
 use Rattle.nv_machine.specs.Doing.{Called, Doing, for_ended, for_leader, for_one, for_owner, for_taken, owner_in, tag_put, tags_put}

@@ -1,5 +1,5 @@
 -- Each call is contained, from the start of an accepted set-up on.
-use Rattle.std.proofs.Common.{◌≡◌, ℕ, zero, suc, List, [], ◌∷◌, length, replicate, slice_get, take, None, Some, refl, sym, ap, ◌∙◌, subst}
+use Rattle.std.proofs.Common.{◌≡◌, ℕ, zero, suc, List, [], ◌∷◌, length, replicate, take, None, refl, ap, subst}
 use Rattle.std.proofs.lemmas.List.{length-replicate}
 use Rattle.nv_laws_sound.proofs.KeptWorlds.{kept-consistent, kept-world}
 use Rattle.nv_laws_sound.proofs.LaidOuts.{host-laid-out}

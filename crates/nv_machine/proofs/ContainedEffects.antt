@@ -1,7 +1,6 @@
 -- The effects of a call are the owner's, and those that a Submit has in the next slots of a submission ring.
-use Rattle.std.proofs.Common.{◌≡◌, ℕ, suc, ◌%◌, ◌<◌, ◌≤◌, Bool, true, false, cond, ◌&&◌, ◌==◌, List, [], ◌∷◌, ◌++◌, length, nat_le, not, slice_get, slice_index, take, All}
+use Rattle.std.proofs.Common.{◌≡◌, ℕ, ◌%◌, ◌<◌, ◌≤◌, Bool, ◌&&◌, ◌==◌, List, [], ◌∷◌, ◌++◌, length, nat_le, not, slice_get, slice_index, take, All}
 use Rattle.std.proofs.Common.{Option, Some, None, arith, refl, sym, ap, ◌∙◌, subst}
-use Rattle.std.specs.Bool.{⊤}
 use Rattle.std.proofs.lemmas.List.Elements.{All-append, All-nil}
 use Rattle.std.proofs.lemmas.List.Sums.{count_by-le-length, length-filter}
 use Rattle.nv_entry.specs.Completion.{cid_of as completed_cid, status_of}
@@ -18,11 +17,11 @@ use Rattle.nv_laws_sound.specs.Groups.{command_of, part_of}
 use Rattle.nv_laws_sound.specs.LaidOut.{IsLaidOut}
 use Rattle.nv_laws_sound.specs.Side.{IsKept, Side}
 use Rattle.nv_machine.specs.Contained.{IsOwn, MayDo, guest_for}
-use Rattle.nv_machine.specs.Doing.{Called, Doing, controller_put, for_one, group_at, lane_changed, owner_in, tag_at, tag_put, tags_put, told}
+use Rattle.nv_machine.specs.Doing.{Doing, controller_put, for_one, group_at, lane_changed, owner_in, tag_at, tag_put, tags_put, told}
 use Rattle.nv_machine.specs.Effects.{Effect, completion_stores, stores}
 use Rattle.nv_machine.specs.InWorld.{AreOnPages}
 use Rattle.nv_machine.specs.Machine.{acted_in, admin_stores, administered_in, answered_with, call, called, carried_by, carry_out, completed_with, controlled}
-use Rattle.nv_machine.specs.Machine.{deletion_done, delivery, ended_at, ended_at_once, front_done, in_order, is_new, list_at, names_command, no_memory, opcode_stores}
+use Rattle.nv_machine.specs.Machine.{delivery, ended_at, ended_at_once, front_done, in_order, is_new, list_at, names_command, no_memory, opcode_stores}
 use Rattle.nv_machine.specs.Machine.{post_all, post_by, ready_done, reap, register_replied, shown_stores, statuses_of, structure_stores, submit_by, take_from, take_front, take_tags}
 use Rattle.nv_machine.proofs.AdminDone.{admin_command-done}
 use Rattle.nv_machine.proofs.CallWalks.{either, ended-walk, one-walk, owner-walk, owner_in-named, tags_put-keeps, taken-walk}
@@ -50,13 +49,13 @@ use Rattle.nv_model.proofs.QueueOrder.{IsKept-in_place, IsKept-on_pages}
 use Rattle.nv_model.proofs.QueuesKept.{by_test, took-kept}
 use Rattle.nv_world_model.specs.Area.{ring_size, tag_count}
 use Rattle.nv_world_model.specs.Contained.{guest_of_one}
-use Rattle.nv_world_model.specs.Geometry.{Geometry, Guest, regions_of, shape_of}
+use Rattle.nv_world_model.specs.Geometry.{Geometry, regions_of, shape_of}
 use Rattle.nv_world_model.specs.Plan.{Answer, Bounced, Direct, NoData, Plan, plan_over}
 use Rattle.nv_world_model.specs.Seat.{Owner}
-use Rattle.nv_world_model.specs.Share.{Share, shares_of}
+use Rattle.nv_world_model.specs.Share.{shares_of}
 use Rattle.nv_world_model.specs.Step as step
 use Rattle.nv_world_model.specs.View.{guest_of_tag}
-use Rattle.nv_world_model.specs.World.{Command, Ended, Flying, Free, Lane, Tag, Taken, group_in, is_that, leader_of, tag_in}
+use Rattle.nv_world_model.specs.World.{Command, Ended, Flying, Free, Lane, Tag, Taken, group_in, is_that, leader_of}
 use Rattle.nv_world_model.specs.declared.event.Event.{Event}
 use Rattle.nv_world_model.specs.declared.event.Event.TheVariants as event
 

@@ -1,13 +1,13 @@
 -- What a call fetches is the owner's, or of the slot that a Reap reads next.
-use Rattle.std.proofs.Common.{◌≡◌, ℕ, zero, suc, ◌+◌, ◌<◌, ◌≤◌, ◌&&◌, ◌==◌, true, List, [], ◌∷◌, length, nat_le, not, slice_get, Option, Some, None}
-use Rattle.std.proofs.Common.{is_none, is_some, arith, ap, sym, ◌∙◌, subst, refl, All}
+use Rattle.std.proofs.Common.{◌≡◌, ℕ, zero, suc, ◌+◌, ◌<◌, ◌≤◌, ◌&&◌, ◌==◌, true, List, [], nat_le, not, slice_get, Option, Some, None}
+use Rattle.std.proofs.Common.{is_none, is_some, arith, ap, sym, subst, refl, All}
 use Rattle.std.proofs.lemmas.List.Elements.{All-cons, All-nil, All-weaker}
 use Rattle.std.specs.List.{range_with_len}
 use Rattle.nv_laws_sound.specs.Side.{Side}
 use Rattle.nv_machine.specs.Contained.{MayFetch, guest_for}
 use Rattle.nv_machine.specs.Doing.{owner_in, tag_at}
 use Rattle.nv_machine.specs.Effects.{hosts_from}
-use Rattle.nv_machine.specs.Machine.{act_fetch, admin_fetch, fetch, fetch_then, from_one, front_entry, is_new, list_fetch, phase_dword}
+use Rattle.nv_machine.specs.Machine.{act_fetch, fetch, fetch_then, from_one, front_entry, is_new, list_fetch}
 use Rattle.nv_machine.proofs.CallWalks.{owner_in-named}
 use Rattle.nv_machine.proofs.Hosts.{hosts-own}
 use Rattle.nv_mem.specs.GuestMap.{IsSound, all_mapped}
@@ -26,7 +26,7 @@ use Rattle.nv_world_model.specs.Geometry.{Geometry, Guest, regions_of}
 use Rattle.nv_world_model.specs.Seat.{Owner}
 use Rattle.nv_world_model.specs.Step.{is_io_queue}
 use Rattle.nv_world_model.specs.View.{in_image}
-use Rattle.nv_world_model.specs.World.{Ended, Flying, Free, Lane, Tag, Taken}
+use Rattle.nv_world_model.specs.World.{Ended, Flying, Free, Tag, Taken}
 use Rattle.nv_world_model.specs.declared.event.Event.{Event}
 use Rattle.nv_world_model.specs.declared.event.Event.TheVariants as event
 

@@ -1,11 +1,11 @@
 -- What is another guest's is as before a call.
-use Rattle.std.proofs.Common.{◌≡◌, ℕ, Bool, true, false, cond, ◌&&◌, ◌==◌, List, [], ◌∷◌, ◌++◌, length, nat_le, not, slice_get, slice_index, take, All, Option, Some, None}
+use Rattle.std.proofs.Common.{◌≡◌, ℕ, Bool, true, false, cond, ◌&&◌, ◌==◌, List, [], ◌∷◌, length, nat_le, not, slice_get, slice_index, take, All, Option, Some, None}
 use Rattle.std.proofs.Common.{eqb-true, refl, set, sym, ap, ◌∙◌, subst}
 use Rattle.std.proofs.lemmas.List.Elements.{All-head, All-tail, All-take, All-weaker}
 use Rattle.nv_entry.specs.Completion.{cid_of as completed_cid, status_of}
 use Rattle.nv_entry.specs.Status.{StatusField}
 use Rattle.nv_entry.specs.StatusCode.{done_with}
-use Rattle.nv_entry.specs.Submission.{cid_of, fuse_of}
+use Rattle.nv_entry.specs.Submission.{cid_of}
 use Rattle.nv_entry.specs.declared.status_code.StatusCode.TheVariants.{InternalError, Success}
 use Rattle.nv_laws_sound.proofs.Lists.{length-set}
 use Rattle.nv_laws_sound.proofs.Numbers.{Passes, numbers-pass, numbers_where}
@@ -13,14 +13,14 @@ use Rattle.nv_laws_sound.proofs.Takes.{claimed-is}
 use Rattle.nv_laws_sound.specs.Groups.{command_of, part_of}
 use Rattle.nv_laws_sound.specs.Side.{IsKept, Side}
 use Rattle.nv_machine.specs.Contained.{LeavesOthers, guest_for}
-use Rattle.nv_machine.specs.Doing.{Called, Doing, controller_put, for_one, group_at, lane_changed, owner_in, replied, tag_at, tag_put, tail_put, tags_put, told}
+use Rattle.nv_machine.specs.Doing.{Doing, controller_put, for_one, group_at, lane_changed, owner_in, tag_at, tag_put, tail_put, tags_put, told}
 use Rattle.nv_machine.specs.Effects.{Effect}
 use Rattle.nv_machine.specs.Machine.{acted_in, admin_stores, administered_in, answered_with, call, called, carried_by, carried_out, carry_out, completed_with, controlled}
-use Rattle.nv_machine.specs.Machine.{deletion_done, delivery, ended_at, ended_at_once, front_done, handed_on, in_order, is_new, list_at, names_command, no_memory, post_all, post_at, post_by}
-use Rattle.nv_machine.specs.Machine.{share_effects, ready_done, reap, reaped_by, register_replied, statuses_of, submit_by, submitted_on, take_from, take_front, take_tags}
-use Rattle.nv_machine.proofs.CallWalks.{IsNamed, either, ended-walk, one-walk, owner-walk, owner_in-named, taken-walk}
+use Rattle.nv_machine.specs.Machine.{ended_at, ended_at_once, front_done, handed_on, in_order, is_new, list_at, names_command, no_memory, post_all, post_by}
+use Rattle.nv_machine.specs.Machine.{share_effects, ready_done, reap, register_replied, statuses_of, submit_by, submitted_on, take_from, take_front, take_tags}
+use Rattle.nv_machine.proofs.CallWalks.{either, ended-walk, one-walk, owner-walk, owner_in-named, taken-walk}
 use Rattle.nv_machine.proofs.Cases.{tag-lane}
-use Rattle.nv_machine.proofs.OwnTags.{AreOthersNone, IsGuestsTag, IsOthersNone, Leaves, controller-leaves, group-guests, group-others, guests-none, leaves-all}
+use Rattle.nv_machine.proofs.OwnTags.{AreOthersNone, IsOthersNone, Leaves, controller-leaves, group-guests, group-others, guests-none, leaves-all}
 use Rattle.nv_machine.proofs.OwnTags.{LeavesRest, leaves-both, leaves-then, none-kept, tag-leaves, tags-leave, free-none}
 use Rattle.nv_machine.proofs.SideWorlds.{begun}
 use Rattle.nv_mem.specs.GuestMap.{all_mapped}
@@ -29,10 +29,9 @@ use Rattle.nv_model.specs.Controller.{Controller, Deletion, Posted, completion_q
 use Rattle.nv_model.specs.Controller.{with_submission}
 use Rattle.nv_model.specs.Limits.{part_size}
 use Rattle.nv_model.specs.Queue.{next_slot}
-use Rattle.nv_model.specs.Transcript.{Outcome, ReadDone, Settled, Wanted}
+use Rattle.nv_model.specs.Transcript.{Outcome, Settled, Wanted}
 use Rattle.nv_model.specs.declared.act.Act.{Act}
 use Rattle.nv_model.specs.declared.act.Act.TheVariants as act
-use Rattle.nv_model.specs.declared.reply.Reply.TheVariants as reply
 use Rattle.nv_world_model.specs.Area.{ring_size}
 use Rattle.nv_world_model.specs.Contained.{guest_of_one}
 use Rattle.nv_world_model.specs.Geometry.{Geometry, regions_of, shape_of}

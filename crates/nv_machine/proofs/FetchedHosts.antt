@@ -1,5 +1,5 @@
 -- Whichever bytes were fetched of a guest's memory, there is a memory of the host that has them there.
-use Rattle.std.proofs.Common.{◌≡◌, ℕ, ◌+◌, true, List, length, map, Option, Some, None, arith, refl, sym, ap, ◌∙◌, subst}
+use Rattle.std.proofs.Common.{◌≡◌, ℕ, true, List, length, Option, Some, None, sym, ap, ◌∙◌}
 use Rattle.std.proofs.lemmas.List.{length-map}
 use Rattle.std.specs.List.{AllPairs}
 use Rattle.nv_machine.specs.Effects.{hosts_from}

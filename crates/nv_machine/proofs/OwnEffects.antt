@@ -1,6 +1,6 @@
 -- Effects in the owner's memory, and in the pages of its tags, are ones that a call may have.
-use Rattle.std.proofs.Common.{◌≡◌, ℕ, suc, ◌+◌, ◌*◌, ◌%◌, ◌<◌, ◌≤◌, Bool, true, false, cond, nat_le, nat_lt, List, [], ◌∷◌, ◌++◌, flat_map, length, slice_get, All}
-use Rattle.std.proofs.Common.{Option, Some, None, arith, eq-eqb, refl, sym, ap, subst, le-leb, lt-ltb}
+use Rattle.std.proofs.Common.{◌≡◌, ℕ, ◌+◌, ◌<◌, ◌≤◌, true, false, nat_le, nat_lt, List, [], ◌∷◌, flat_map, length, slice_get, All}
+use Rattle.std.proofs.Common.{Option, Some, None, arith, eq-eqb, refl, le-leb, lt-ltb}
 use Rattle.std.specs.Bool.{⊤}
 use Rattle.std.proofs.lemmas.Bool.Decides.{nat_tests}
 use Rattle.std.proofs.lemmas.List.Elements.{All-append, All-cons, All-head, All-nil, All-tail, All-weaker}
@@ -26,7 +26,6 @@ use Rattle.nv_model.proofs.QueuesKept.{by_test}
 use Rattle.nv_world_model.specs.Area.{bounce_page, list_page, translated_range}
 use Rattle.nv_world_model.specs.Geometry.{Geometry, Guest, regions_of}
 use Rattle.nv_world_model.specs.Plan.{Answer, Bounced, Direct, NoData, Plan}
-use Rattle.nv_world_model.specs.Share.{Share}
 use Rattle.nv_world_model.specs.Step as step
 use Rattle.nv_world_model.specs.World.{Ended, Flying, Free, Tag, Taken}
 

@@ -2,16 +2,16 @@
 use Rattle.std.proofs.Common.{◌≡◌, ◌≢◌, ℕ, Bool, true, false, cond, ◌==◌, List, [], ◌∷◌, length, set, slice_get, All, Option, Some, None}
 use Rattle.std.proofs.Common.{zero, suc, refl, sym, ap, ◌∙◌, subst, eqb-true}
 use Rattle.std.proofs.lemmas.Bool.{ne_eqb}
-use Rattle.std.proofs.lemmas.List.Elements.{All-head, All-nil, All-tail, All-weaker}
-use Rattle.nv_laws_sound.specs.Groups.{AreGroups, command_of, goes_by, part_of, parts_of}
-use Rattle.nv_laws_sound.specs.Side.{IsKept, Side}
+use Rattle.std.proofs.lemmas.List.Elements.{All-head, All-tail, All-weaker}
+use Rattle.nv_laws_sound.specs.Groups.{AreGroups, command_of, part_of, parts_of}
+use Rattle.nv_laws_sound.specs.Side.{Side}
 use Rattle.nv_laws_sound.proofs.Folds.{HasTag, group-has, tag-part}
 use Rattle.nv_laws_sound.proofs.Groupings.{group-command}
 use Rattle.nv_machine.specs.Doing.{Doing, controller_put, group_at, tag_at, tag_put, tags_put}
 use Rattle.nv_machine.proofs.SideWorlds.{world_with}
 use Rattle.nv_model.specs.Controller.{Controller}
 use Rattle.nv_world_model.specs.Geometry.{Geometry}
-use Rattle.nv_world_model.specs.View.{guest_of_tag, is_tag_of, own_tag}
+use Rattle.nv_world_model.specs.View.{guest_of_tag, own_tag}
 use Rattle.nv_world_model.specs.World.{Command, Ended, Flying, Free, Lane, Tag, Taken, World, changed_at, group, is_that, tag_changed, tag_in}
 use Rattle.nv_world_model.proofs.Seats.{slice_get-set, slice_get-set-other}
 

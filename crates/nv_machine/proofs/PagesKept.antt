@@ -1,5 +1,5 @@
 -- Each event of a guest or of the mediator keeps that queues begin with pages.
-use Rattle.std.proofs.Common.{◌≡◌, ℕ, Bool, true, false, cond, ◌&&◌, List, [], ◌∷◌, nat_le, set, slice_get, Option, Some, None, refl, sym, ap, ◌∙◌, subst}
+use Rattle.std.proofs.Common.{◌≡◌, ℕ, Bool, true, false, cond, ◌&&◌, List, [], ◌∷◌, nat_le, slice_get, Option, Some, None, refl, sym, ◌∙◌, subst}
 use Rattle.nv_entry.specs.Status.{StatusField}
 use Rattle.nv_entry.specs.StatusCode.{done_with}
 use Rattle.nv_entry.specs.Submission.{cid_of}
@@ -10,7 +10,7 @@ use Rattle.nv_laws_sound.proofs.Walks.{device-walk, either, ended-walk, guest-wa
 use Rattle.nv_laws_sound.specs.Mediators.{IsMediators}
 use Rattle.nv_machine.specs.InWorld.{AreOnPages}
 use Rattle.nv_mem.specs.GuestMap.{all_mapped, mapped}
-use Rattle.nv_model.specs.Admin.{AdminStep, NothingToDo, QueueFull, Stepped, admin}
+use Rattle.nv_model.specs.Admin.{AdminStep, NothingToDo, QueueFull, Stepped}
 use Rattle.nv_model.specs.Controller.{Controller, Posted, front, is_enabled, post, ran_out, took}
 use Rattle.nv_model.specs.Laws.{IsCompletionOnPage, IsSubmissionOnPage, QueuesOnPages}
 use Rattle.nv_model.specs.Limits.{part_size}
@@ -34,7 +34,7 @@ use Rattle.nv_world_model.specs.ShareArea.{is_no_command}
 use Rattle.nv_world_model.specs.Step.{acted_by, acted_in, administered_by, administered_in, carried_out, carry_out, deciding, delivered, ended_at, ended_at_once, handed_on}
 use Rattle.nv_world_model.specs.Step.{completion_read, is_io_queue, list_at, listed, post_all, post_by, posted_to, ran_out_of, reap, reaped, statuses_of, step, submit_by}
 use Rattle.nv_world_model.specs.Step.{submitted, submitted_on, take_from, take_front, take_tags, taken_to}
-use Rattle.nv_world_model.specs.World.{Command, Ended, Flying, Free, Lane, Tag, Taken, World, group, tag_of, with_controller, with_host, with_lane, with_tag, with_tags}
+use Rattle.nv_world_model.specs.World.{Command, Ended, Flying, Free, Lane, Tag, Taken, World, group, tag_of, with_controller, with_lane, with_tag, with_tags}
 use Rattle.nv_world_model.specs.declared.event.Event.{Event}
 use Rattle.nv_world_model.specs.declared.event.Event.TheVariants as event
 

@@ -1,7 +1,6 @@
 -- The mediator's side stays sound, whichever calls are made and whichever bytes are fetched for them.
-use Rattle.std.proofs.Common.{◌≡◌, ℕ, ◌+◌, Bool, true, false, cond, not, ◌&&◌, ◌==◌, List, [], ◌∷◌, drop, length, nat_le, replicate, slice_get, take, Option, Some, None}
+use Rattle.std.proofs.Common.{◌≡◌, ℕ, ◌+◌, Bool, true, false, cond, not, ◌&&◌, ◌==◌, List, [], length, nat_le, slice_get, take, Option, Some, None}
 use Rattle.std.proofs.Common.{is_none, arith, eq-eqb, refl, sym, ap, ◌∙◌, subst}
-use Rattle.std.specs.Bool.{⊤}
 use Rattle.nv_entry.specs.Completion.{cid_of as completed_cid, status_of}
 use Rattle.nv_laws_sound.proofs.KeptEvents.{reaped-kept, step-kept}
 use Rattle.nv_laws_sound.proofs.KeptWorlds.{kept-world}
@@ -9,7 +8,7 @@ use Rattle.nv_laws_sound.proofs.Lists.{some-same}
 use Rattle.nv_laws_sound.specs.Kept.{IsKeptWorld}
 use Rattle.nv_laws_sound.specs.LaidOut.{IsLaidOut}
 use Rattle.nv_laws_sound.specs.Mediators.{IsMediators}
-use Rattle.nv_laws_sound.specs.Side.{AreKept, IsKept, Side, tails_of}
+use Rattle.nv_laws_sound.specs.Side.{AreKept, IsKept, Side}
 use Rattle.nv_machine.specs.Contained.{IsFetched}
 use Rattle.nv_machine.specs.Doing.{Called, Doing, lane_changed, owner_in, tag_at}
 use Rattle.nv_machine.specs.InWorld.{AreOnPages, after_in, in_world}
@@ -42,7 +41,7 @@ use Rattle.nv_world_model.specs.Contained.{guest_of_one}
 use Rattle.nv_world_model.specs.Geometry.{Geometry, regions_of}
 use Rattle.nv_world_model.specs.Seat.{Owner}
 use Rattle.nv_world_model.specs.Step as step
-use Rattle.nv_world_model.specs.World.{Command, Ended, Flying, Free, Lane, Tag, Taken, World, changed_at, tag_in, with_lane}
+use Rattle.nv_world_model.specs.World.{Command, Ended, Flying, Free, Lane, Tag, Taken, World, tag_in, with_lane}
 use Rattle.nv_world_model.specs.declared.event.Event.{Event}
 use Rattle.nv_world_model.specs.declared.event.Event.TheVariants as event
 

@@ -1,12 +1,11 @@
 -- A world of a side of the mediator: with any memory, a physical controller with the side's tails, and an empty disk.
-use Rattle.std.proofs.Common.{◌≡◌, ℕ, zero, suc, ◌<◌, false, List, [], ◌∷◌, length, map, slice_get, Option, Some, None, arith, refl, sym, ap, ◌∙◌, subst}
+use Rattle.std.proofs.Common.{◌≡◌, ℕ, suc, false, List, [], ◌∷◌, length, map, slice_get, arith, refl, sym, ap, ◌∙◌, subst}
 use Rattle.nv_laws_sound.specs.Kept.{IsKeptWorld}
 use Rattle.nv_laws_sound.specs.Side.{IsKept, Side, rung_with, tails_of}
-use Rattle.nv_laws_sound.proofs.Tails.{length-tails, tail-of}
+use Rattle.nv_laws_sound.proofs.Tails.{tail-of}
 use Rattle.nv_machine.specs.Doing.{Doing}
 use Rattle.nv_machine.specs.InWorld.{in_world, side_of}
 use Rattle.nv_machine.proofs.InWorlds.{in-first}
-use Rattle.nv_world_model.specs.Area.{ring_size}
 use Rattle.nv_world_model.specs.Device.{DeviceLane, opening_device_lane}
 use Rattle.nv_world_model.specs.Geometry.{Geometry}
 use Rattle.nv_world_model.specs.World.{World}

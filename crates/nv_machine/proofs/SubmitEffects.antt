@@ -1,6 +1,6 @@
 -- The effects of a Submit are in the owner's pages, but for physical entries in the next slots of the submission ring.
-use Rattle.std.proofs.Common.{◌≡◌, ℕ, suc, ◌+◌, ◌%◌, ◌<◌, ◌≤◌, Bool, true, false, cond, List, [], ◌∷◌, ◌++◌, length, set, slice_get, All}
-use Rattle.std.proofs.Common.{Option, Some, None, append-nil, append_assoc, arith, refl, sym, ap, ◌∙◌, subst}
+use Rattle.std.proofs.Common.{◌≡◌, ℕ, suc, ◌%◌, ◌<◌, ◌≤◌, Bool, true, false, cond, List, [], ◌∷◌, ◌++◌, length, slice_get, All}
+use Rattle.std.proofs.Common.{Option, Some, append-nil, append_assoc, arith, refl, sym, ◌∙◌, subst}
 use Rattle.std.proofs.lemmas.List.Elements.{All-append, All-cons, All-head, All-nil, All-tail, All-weaker}
 use Rattle.nv_entry.specs.StatusCode.{done_with}
 use Rattle.nv_entry.specs.declared.status_code.StatusCode.TheVariants.{Success}
@@ -9,7 +9,7 @@ use Rattle.nv_laws_sound.proofs.Rings.{between-head, between-was, far, next-belo
 use Rattle.nv_laws_sound.specs.Consistent.{IsBetween, IsPlanned}
 use Rattle.nv_laws_sound.specs.Side.{Side}
 use Rattle.nv_machine.specs.Contained.{IsOwn, MayDo, NextSlot}
-use Rattle.nv_machine.specs.Doing.{Doing, tag_put, tail_put, told}
+use Rattle.nv_machine.specs.Doing.{Doing, tag_put}
 use Rattle.nv_machine.specs.Effects.{Effect, Store}
 use Rattle.nv_machine.specs.Machine.{bounce_effects, carried_out, handed_on, share_effects, submitted_on}
 use Rattle.nv_machine.proofs.ContainedFetch.{AreSound}
@@ -19,11 +19,11 @@ use Rattle.nv_machine.proofs.OwnTags.{IsGuestsTag}
 use Rattle.nv_model.specs.Limits.{page}
 use Rattle.nv_model.specs.Queue.{next_slot, sqe_size}
 use Rattle.nv_world_model.specs.Area.{bounce_page, list_bytes, list_page, prps_of, ring_size, submission_slot}
-use Rattle.nv_world_model.specs.Geometry.{Geometry, Guest}
+use Rattle.nv_world_model.specs.Geometry.{Geometry}
 use Rattle.nv_world_model.specs.Seat.{Owner}
 use Rattle.nv_world_model.specs.Share.{Share}
 use Rattle.nv_world_model.specs.ShareArea.{is_no_command, share_entry}
-use Rattle.nv_world_model.specs.World.{Command, Ended, Flying, Queued}
+use Rattle.nv_world_model.specs.World.{Command, Ended}
 use Rattle.nv_world_model.proofs.Seats.{slice_get-set}
 
 -- an effect in what is the owner's, or an entry in a slot between two positions of a lane's submission ring
