@@ -17,3 +17,15 @@ pub mod OwnEntries
 pub mod Elims
 pub mod OwnStores
 pub mod Orders
+pub mod CallWalks
+pub mod ContainedFetch
+pub mod SideWorlds
+pub mod OwnTags
+pub mod ContainedOthers
+pub mod OwnEffects
+pub mod SubmitEffects
+pub mod ContainedEffects
+pub mod PagesKept
+pub mod FetchedHosts
+pub mod Reached
+pub mod ContainedCalls
