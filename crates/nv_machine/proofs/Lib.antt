@@ -29,3 +29,7 @@ pub mod PagesKept
 pub mod FetchedHosts
 pub mod Reached
 pub mod ContainedCalls
+pub mod AlikeSides
+pub mod AlikeGroups
+pub mod AlikeActs
+pub mod AlikeCalls

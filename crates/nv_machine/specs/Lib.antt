@@ -6,3 +6,4 @@ pub mod Contained
 pub mod Entries
 pub mod Rows
 pub mod Order
+pub mod Alike

@@ -2,5 +2,6 @@
 pub mod containment;
 pub mod effects;
 pub mod entries;
+pub mod independence;
 pub mod order;
 pub mod worlds;
