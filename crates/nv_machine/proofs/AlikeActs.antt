@@ -1,28 +1,26 @@
 -- What calls for a guest do comes to the same in sides that are alike to it.
-use Rattle.std.proofs.Common.{◌≡◌, ℕ, ◌+◌, Bool, true, false, cond, not, ◌&&◌, ◌==◌, nat_le, is_none, replicate, List, [], ◌∷◌, ◌++◌, All, length, slice_get, slice_index, take, Option, Some, None}
-use Rattle.std.proofs.Common.{refl, sym, ap, ◌∙◌, subst}
-use Rattle.std.specs.List.{range_with_len}
+use Rattle.std.proofs.Common.{◌≡◌, ℕ, ◌+◌, Bool, true, false, cond, ◌&&◌, ◌==◌, replicate, List, [], ◌∷◌, ◌++◌, All, slice_get, take, Option, Some, None}
+use Rattle.std.proofs.Common.{refl, sym, ap, subst}
 use Rattle.nv_entry.specs.Completion.{cid_of as completed_cid, phase_of, sqid_of, status_of}
 use Rattle.nv_entry.specs.Status.{StatusField, bit}
 use Rattle.nv_entry.specs.StatusCode.{done_with}
-use Rattle.nv_entry.specs.declared.status_code.StatusCode.TheVariants.{InternalError, Success}
+use Rattle.nv_entry.specs.declared.status_code.StatusCode.TheVariants.{Success}
 use Rattle.nv_entry.specs.Submission.{cid_of}
-use Rattle.nv_laws_sound.specs.Side.{IsKept, Side}
-use Rattle.nv_laws_sound.proofs.Lists.{some-same}
-use Rattle.nv_machine.specs.Alike.{ComeToAlike, IsAlike}
-use Rattle.nv_machine.specs.Contained.{guest_for}
-use Rattle.nv_machine.specs.Doing.{Called, Doing, controller_put, for_ended, for_leader, for_one, for_owner, for_taken, group_at, lane_changed, owner_in, replied, stray}
-use Rattle.nv_machine.specs.Doing.{tag_at, tag_put, tags_put, tail_put, told}
-use Rattle.nv_machine.specs.Effects.{Effect, completion_stores}
-use Rattle.nv_machine.specs.Machine.{acted_in, admin_stores, administered_in, answered_with, call, called, carried_by, carried_out, carry_out, completed_with, controlled}
-use Rattle.nv_machine.specs.Machine.{deletion_done, delivery, ended_at, ended_at_once, fetch, fetch_then, from_one, front_done, handed_on, in_order, is_flying, is_new}
-use Rattle.nv_machine.specs.Machine.{list_at, list_fetch, names_command, no_memory, phase_dword, post_all, post_at, post_by, ready_done, reap, reaped_by, register_replied, statuses_of}
+use Rattle.nv_machine.proofs.AdminWords.{no_memory}
+use Rattle.nv_machine.specs.Alike.{ComeToAlike}
+use Rattle.nv_entry.specs.Layout.{number_bytes}
+use Rattle.nv_machine.specs.Doing.{Called, Doing, controller_put, for_ended, for_one, for_owner, for_taken, lane_changed, replied, stray}
+use Rattle.nv_machine.specs.Doing.{tag_at, tag_put}
+use Rattle.nv_machine.specs.Effects.{Effect}
+use Rattle.nv_machine.specs.Machine.{acted_in, admin_stores, administered_in, answered_with, carried_out, carry_out, completed_with, controlled}
+use Rattle.nv_machine.specs.Machine.{deletion_done, ended_at, ended_at_once, front_done, handed_on, in_order, is_flying, is_new}
+use Rattle.nv_machine.specs.Machine.{post_all, post_at, post_by, ready_done, reap, reaped_by}
 use Rattle.nv_machine.specs.Machine.{submit_by, submitted_on, take_from, take_front, take_tags}
-use Rattle.nv_machine.proofs.AlikeGroups.{claimed-same, delivery-alike, group-same, is-own, statuses-alike, tag-same}
-use Rattle.nv_machine.proofs.AlikeSides.{AreFound, ChangesAlike, AreLanes, AreSame, BothLanes, NoLane, lanes-found, own-same, same-controller, same-lane, same-replied, same-tag, same-tags}
+use Rattle.nv_machine.proofs.AlikeGroups.{claimed-same, delivery-alike}
+use Rattle.nv_machine.proofs.AlikeSides.{AreFound, ChangesAlike, AreLanes, AreSame, BothLanes, NoLane, lanes-found, same-controller, same-lane, same-replied, same-tag, same-tags}
 use Rattle.nv_machine.proofs.AlikeSides.{same-tail, same-told}
 use Rattle.nv_model.specs.Admin.{AdminEffect, answered, is_queue_full}
-use Rattle.nv_model.specs.Controller.{Controller, Deletion, Posted, completion_queue, front, is_enabled, is_ready, post, with_submission}
+use Rattle.nv_model.specs.Controller.{Controller, Deletion, Posted, completion_queue, front, post, with_submission}
 use Rattle.nv_model.specs.Queue.{next_slot}
 use Rattle.nv_model.specs.Transcript.{Outcome, ReadDone, Settled, Wanted}
 use Rattle.nv_model.specs.declared.act.Act.{Act}
@@ -30,16 +28,14 @@ use Rattle.nv_model.specs.declared.act.Act.TheVariants as act
 use Rattle.nv_model.specs.declared.reply.Reply.{Reply}
 use Rattle.nv_model.specs.declared.reply.Reply.TheVariants as reply
 use Rattle.nv_world_model.specs.Area.{queue_pair, ring_size}
-use Rattle.nv_world_model.specs.Contained.{guest_of_one}
 use Rattle.nv_world_model.specs.Device.{next_phase}
-use Rattle.nv_world_model.specs.Geometry.{Geometry, regions_of, shape_of}
-use Rattle.nv_world_model.specs.Plan.{Answer, Bounced, Direct, NoData, Plan, plan_over}
+use Rattle.nv_world_model.specs.Plan.{Answer, Bounced, Direct, NoData, Plan}
 use Rattle.nv_world_model.specs.Seat.{Owner, owner_by}
 use Rattle.nv_world_model.specs.Share.{Share}
 use Rattle.nv_world_model.specs.ShareArea.{is_no_command}
-use Rattle.nv_world_model.specs.Step.{completion_read, deciding, is_io_queue, passed_on}
-use Rattle.nv_world_model.specs.View.{LaneNumbers, guest_of_tag, is_tag_of}
-use Rattle.nv_world_model.specs.World.{Command, Ended, Flying, Free, Lane, Tag, Taken, is_free, tag_in}
+use Rattle.nv_world_model.specs.Step.{completion_read, deciding, is_io_queue}
+use Rattle.nv_world_model.specs.View.{LaneNumbers, is_tag_of}
+use Rattle.nv_world_model.specs.World.{Command, Ended, Flying, Free, Lane, Tag, Taken}
 use Rattle.nv_world_model.specs.declared.event.Event.{Event}
 use Rattle.nv_world_model.specs.declared.event.Event.TheVariants as event
 
@@ -113,7 +109,7 @@ module _ (number : ℕ) where
       both-controlled None = told-only reply.Ignored
       both-controlled (Some c) = same-replied number reply.Done _ _ (put c m n same)
 
-      pub both-register : (value : Option ℕ) → Alike (register_replied value m) (register_replied value n)
+      pub both-register : (value : Option ℕ) → Alike (for_one value m (λ value. replied (reply.Bytes (number_bytes 4 value)) m)) (for_one value n (λ value. replied (reply.Bytes (number_bytes 4 value)) n))
       both-register None = told-only reply.Ignored
       both-register (Some value) = told-only _
 

@@ -1,5 +1,5 @@
 -- In sides that are alike to a guest its commands have the same tags, with the same in them.
-use Rattle.std.proofs.Common.{◌≡◌, ℕ, zero, suc, Bool, true, false, cond, ◌==◌, List, [], ◌∷◌, ◌++◌, All, flat_map, length, map, slice_get, Option, Some, None}
+use Rattle.std.proofs.Common.{◌≡◌, ℕ, suc, Bool, true, false, cond, List, [], ◌∷◌, ◌++◌, All, flat_map, length, map, slice_get, Option, Some, None}
 use Rattle.std.proofs.Common.{arith, refl, sym, ap, ◌∙◌, subst, eqb-true, eq-eqb}
 use Rattle.std.specs.Option.{option_map}
 use Rattle.std.proofs.lemmas.List.Elements.{All-head, All-tail, All-weaker}
@@ -15,13 +15,11 @@ use Rattle.nv_machine.specs.Doing.{group_at, tag_at}
 use Rattle.nv_machine.specs.Effects.{Effect}
 use Rattle.nv_machine.specs.Machine.{delivered_from, delivery, statuses_of}
 use Rattle.nv_machine.proofs.AlikeSides.{AreFound, AreLanes, BothLanes, NoLane, lanes-found, own-same}
-use Rattle.nv_machine.proofs.Cases.{tag-lane}
 use Rattle.nv_world_model.specs.Area.{bounce_page}
 use Rattle.nv_world_model.specs.Contained.{guest_of_one}
 use Rattle.nv_world_model.specs.Geometry.{Geometry, Guest}
-use Rattle.nv_world_model.specs.Share.{Share}
 use Rattle.nv_world_model.specs.Step.{ended_status, is_success, status_before}
-use Rattle.nv_world_model.specs.View.{LaneNumbers, guest_of_tag, is_tag_of}
+use Rattle.nv_world_model.specs.View.{guest_of_tag, is_tag_of}
 use Rattle.nv_world_model.specs.World.{Command, Ended, Flying, Free, Lane, Tag, Taken, claimed, first_of, group_in, is_free, is_that, leader_of, tag_in}
 
 -- ---- lists

@@ -1,13 +1,13 @@
 -- Sides that are alike to a guest stay so where the same is done to both.
-use Rattle.std.proofs.Common.{◌≡◌, ℕ, zero, suc, ◌+◌, ◌<◌, ◌≤◌, Bool, true, false, cond, ◌==◌, List, [], ◌∷◌, ◌++◌, All, length, map, set, slice_get, Option, Some, None}
-use Rattle.std.proofs.Common.{arith, refl, sym, ap, ◌∙◌, subst, eqb-true}
+use Rattle.std.proofs.Common.{◌≡◌, ℕ, zero, suc, ◌+◌, Bool, true, false, ◌==◌, List, [], ◌∷◌, ◌++◌, map, set, slice_get, Option, Some, None}
+use Rattle.std.proofs.Common.{refl, sym, ap, ◌∙◌, subst, eqb-true}
 use Rattle.std.specs.Option.{option_map}
 use Rattle.std.proofs.lemmas.List.{map-set}
 use Rattle.std.proofs.lemmas.Option.{slice_get-map}
 use Rattle.nv_laws_sound.specs.Side.{Side}
 use Rattle.nv_laws_sound.proofs.Lists.{some-same}
 use Rattle.nv_machine.specs.Alike.{ComeToAlike, IsAlike}
-use Rattle.nv_machine.specs.Doing.{Called, Doing, controller_put, lane_changed, replied, tag_at, tag_put, tags_put, tail_put, told}
+use Rattle.nv_machine.specs.Doing.{Doing, controller_put, lane_changed, replied, tag_put, tags_put, tail_put, told}
 use Rattle.nv_machine.specs.Effects.{Effect}
 use Rattle.nv_model.specs.Controller.{Controller}
 use Rattle.nv_model.specs.declared.reply.Reply.{Reply}
@@ -201,7 +201,10 @@ module _ (number : ℕ) where
         effects = same.effects;
         sides =
             record {
-              lanes = same.sides.lanes; tails = ap (λ ts. set ts lane tail) same.sides.tails; controller = same.sides.controller; tags = same.sides.tags;
+              lanes = same.sides.lanes;
+              tails = ap (λ ts. set ts lane tail) same.sides.tails;
+              controller = same.sides.controller;
+              tags = same.sides.tags;
             };
       }
 
@@ -219,7 +222,9 @@ module _ (number : ℕ) where
         effects = same.effects;
         sides =
             record {
-              lanes = same.sides.lanes; tails = same.sides.tails;
-              controller = put-there m.side.controllers n.side.controllers c same.sides.controller; tags = same.sides.tags;
+              lanes = same.sides.lanes;
+              tails = same.sides.tails;
+              controller = put-there m.side.controllers n.side.controllers c same.sides.controller;
+              tags = same.sides.tags;
             };
       }

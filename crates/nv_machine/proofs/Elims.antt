@@ -1,7 +1,7 @@
 -- What holds in each case of a call holds of the call.
 use Rattle.std.proofs.Common.{◌≡◌, ℕ, Bool, true, false, cond, ◌==◌, List, Option, Some, None, refl}
 use Rattle.nv_entry.specs.Status.{StatusField}
-use Rattle.nv_machine.specs.Doing.{Called, Doing, for_ended, for_leader, for_one, for_owner, for_taken, replied}
+use Rattle.nv_machine.specs.Doing.{Called, Doing, for_ended, for_one, for_owner, for_taken, replied}
 use Rattle.nv_model.specs.Controller.{Controller}
 use Rattle.nv_model.specs.Transcript.{ReadDone}
 use Rattle.nv_model.specs.declared.reply.Reply.{Reply}

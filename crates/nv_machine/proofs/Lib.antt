@@ -9,6 +9,7 @@ pub mod SubmitCalls
 pub mod ReapCalls
 pub mod PostCalls
 pub mod ActCalls
+pub mod AdminWords
 pub mod AdminDone
 pub mod AdminCalls
 pub mod EventCalls

@@ -1,5 +1,5 @@
 -- A Post and an Admin end with the completion that they post.
-use Rattle.std.proofs.Common.{◌≡◌, ℕ, ◌+◌, ◌-◌, ◌%◌, ◌<◌, ◌≤◌, Bool, true, false, cond, not, ◌==◌, nat_lt, nat_le, ◌&&◌, List, [], ◌∷◌, ◌++◌, All, drop, flat_map, length, slice_get}
+use Rattle.std.proofs.Common.{◌≡◌, ℕ, ◌+◌, ◌-◌, ◌≤◌, Bool, false, not, ◌==◌, nat_lt, nat_le, ◌&&◌, List, [], ◌∷◌, ◌++◌, All, drop, flat_map, length, slice_get}
 use Rattle.std.proofs.Common.{slice_index, take, Option, Some, None, arith, refl, set, sym, ap, ◌∙◌, subst}
 use Rattle.std.specs.List.{Contains}
 use Rattle.std.proofs.lemmas.Bool.Decides.{nat_tests}
@@ -16,20 +16,19 @@ use Rattle.nv_entry.specs.declared.status_code.StatusCode.{StatusCode}
 use Rattle.nv_laws_sound.specs.LaidOut.{IsLaidOut}
 use Rattle.nv_laws_sound.specs.Side.{IsKept, Side}
 use Rattle.nv_laws_sound.proofs.Lists.{some-same}
+use Rattle.nv_machine.proofs.AdminWords.{carried_by, no_memory}
 use Rattle.nv_machine.specs.Doing.{Called, Doing, controller_put, group_at, owner_in, replied, tag_at, tag_put, tags_put, told}
 use Rattle.nv_machine.specs.Effects.{Effect, Store, completion_stores, store_at, writes_to}
 use Rattle.nv_machine.specs.InWorld.{AreOnPages}
-use Rattle.nv_machine.specs.Machine.{admin_stores, administered_in, answered_with, call, called, carried_by, completed_with, deletion_done, delivered_by, delivered_from}
-use Rattle.nv_machine.specs.Machine.{delivery, front_done, no_memory, post_all, post_at, post_by, ready_done, statuses_of}
+use Rattle.nv_machine.specs.Machine.{admin_stores, administered_in, answered_with, call, called, completed_with, deletion_done, delivered_by, delivered_from}
+use Rattle.nv_machine.specs.Machine.{delivery, front_done, post_all, post_at, post_by, ready_done, statuses_of}
 use Rattle.nv_machine.specs.Order.{Delivered, EndsWith, IsDelivered, IsInOrder, IsStructure, Posts, PostsNone}
 use Rattle.nv_machine.proofs.AdminDone.{admin_command-done}
 use Rattle.nv_machine.proofs.Effects.{page-of-entry}
-use Rattle.nv_machine.proofs.Elims.{each-cond, each-ended, each-one, each-owner}
+use Rattle.nv_machine.proofs.Elims.{each-ended, each-one, each-owner}
 use Rattle.nv_machine.proofs.Hosts.{row-in-page}
 use Rattle.nv_machine.proofs.Posted.{AreReady, IsPlaced, post-placed, ready-placed}
 use Rattle.nv_mem.specs.GuestMap.{IsSound, host_of, mapped}
-use Rattle.nv_mem.specs.MapRuns.{IsContiguous}
-use Rattle.nv_mem.specs.declared.region.Region.{Region}
 use Rattle.nv_model.specs.Admin.{AdminEffect, Hidden, Shown, Structure, admin_command, answered, checked, delete_found, done_by, done_with_opcode, identified, identify_by}
 use Rattle.nv_model.specs.Admin.{is_queue_full, qid, refused, selector, number_of_queues, shown, identify_reading}
 use Rattle.nv_model.specs.Controller.{Controller, Deletion, Posted, completion_queue, front, is_enabled, is_ready, post, ran_out, submission_queue, took, took_of, with_submission}
@@ -45,7 +44,6 @@ use Rattle.nv_world_model.specs.Area.{bounce_page}
 use Rattle.nv_world_model.specs.Contained.{guest_of_one}
 use Rattle.nv_world_model.specs.Geometry.{Geometry, Guest, regions_of, shape_of}
 use Rattle.nv_world_model.specs.Seat.{Owner}
-use Rattle.nv_world_model.specs.Share.{Share}
 use Rattle.nv_world_model.specs.Step.{deciding, is_success}
 use Rattle.nv_world_model.specs.World.{Command, Ended, Flying, Free, Tag, Taken}
 use Rattle.nv_world_model.specs.declared.event.Event.TheVariants as event

@@ -1,6 +1,6 @@
 -- The physical entry of a share names bytes and blocks of its guest alone.
-use Rattle.std.proofs.Common.{◌≡◌, ℕ, zero, suc, ◌+◌, ◌*◌, ◌/◌, ◌%◌, ◌^◌, ◌<◌, ◌≤◌, ◌⊎◌, inl, inr, Bool, true, false, ◌||◌, ◌==◌, is_some, List, [], ◌∷◌, All, flat_map}
-use Rattle.std.proofs.Common.{length, map, slice_get, Option, Some, None, arith, refl, sym, ap, ◌∙◌, subst, mod-lt, eq-eqb}
+use Rattle.std.proofs.Common.{◌≡◌, ℕ, zero, suc, ◌+◌, ◌*◌, ◌/◌, ◌^◌, ◌<◌, ◌≤◌, inl, inr, true, false, ◌||◌, ◌==◌, is_some, List, All}
+use Rattle.std.proofs.Common.{length, slice_get, Some, arith, refl, sym, ap, ◌∙◌, subst, mod-lt, eq-eqb}
 use Rattle.std.specs.List.{list_any, range_with_len}
 use Rattle.std.proofs.lemmas.Bool.{cases_lt}
 use Rattle.std.proofs.lemmas.List.Elements.{All-map, All-nil}
@@ -10,7 +10,7 @@ use Rattle.nv_entry.specs.Range.{blocks_of, start_of}
 use Rattle.nv_entry.specs.Submission.{fuse_of, opcode_of, psdt_of, slba_of}
 use Rattle.nv_entry.specs.declared.opcode.IoOpcode.{IoOpcode}
 use Rattle.nv_laws_sound.specs.Area.{Shows, ranges_of}
-use Rattle.nv_laws_sound.specs.Consistent.{HasPages, IsInDevice, IsPlanned}
+use Rattle.nv_laws_sound.specs.Consistent.{IsInDevice, IsPlanned}
 use Rattle.nv_laws_sound.specs.LaidOut.{IsLaidOut}
 use Rattle.nv_laws_sound.proofs.EntryFields.{dword-there, entry-cid, own_units}
 use Rattle.nv_laws_sound.proofs.HeldEntries.{held-all, held-left, held-places, physical-opcode}
@@ -20,12 +20,11 @@ use Rattle.nv_laws_sound.proofs.OnDisk.{blocks-counted, entry-own, entry-units, 
 use Rattle.nv_laws_sound.proofs.PlanSizes.{entry-length, own-few, own_work, planned-kinds}
 use Rattle.nv_machine.specs.Entries.{AreBlocksOf, IsOwnByte, IsOwnEntry, NamesOwn}
 use Rattle.nv_mem.proofs.Images.{guest_of-host}
-use Rattle.nv_mem.specs.GuestMap.{guest_of, host_of}
 use Rattle.nv_mem.specs.Places.{At, places_of, total_len}
 use Rattle.nv_model.specs.Judge.{Clear, Form, Keep, Manage, Transfer, Work, count_of, form_has_blocks, form_of, has_blocks, range_count_of}
 use Rattle.nv_model.specs.Limits.{most_bytes}
 use Rattle.nv_world_model.specs.Area.{addresses_of, bounce_page, list_bytes, list_page, physical_entry, prps_of, tag_count}
-use Rattle.nv_world_model.specs.Device.{Held, form_unit_count, held_of, range_at}
+use Rattle.nv_world_model.specs.Device.{form_unit_count, held_of, range_at}
 use Rattle.nv_world_model.specs.Geometry.{Geometry, Guest, regions_of}
 use Rattle.nv_world_model.specs.Share.{Share}
 use Rattle.nv_world_model.specs.ShareArea.{is_no_command, share_entry}

@@ -1,6 +1,6 @@
 -- Each effect of a Submit is of a share of the plan, and what it writes in a submission ring is the share's entry.
-use Rattle.std.proofs.Common.{◌≡◌, ℕ, ◌+◌, ◌*◌, ◌<◌, ◌≤◌, Bool, true, false, cond, List, [], ◌∷◌, ◌++◌, All, length, slice_get, Option, Some, None, arith, refl, sym}
-use Rattle.std.proofs.Common.{ap, set, ◌∙◌, subst}
+use Rattle.std.proofs.Common.{◌≡◌, ℕ, ◌+◌, ◌<◌, ◌≤◌, true, false, cond, List, [], ◌∷◌, ◌++◌, All, length, slice_get, Option, Some, None, arith, refl, sym}
+use Rattle.std.proofs.Common.{set, subst}
 use Rattle.std.specs.List.{Contains}
 use Rattle.std.proofs.lemmas.Bool.Decides.{nat_tests}
 use Rattle.std.proofs.lemmas.List.Elements.{All-append, All-cons, All-contains, All-contains_itself, All-head, All-nil, All-tail, All-weaker}
@@ -15,7 +15,7 @@ use Rattle.nv_laws_sound.proofs.Lists.{IsThere, Put, Was, set-there, slice_get-b
 use Rattle.nv_laws_sound.proofs.PlanSizes.{list-short, ranges-short}
 use Rattle.nv_laws_sound.proofs.Planned.{Answers, IsAnswerOr, Plans, plan_over-is, shares-planned}
 use Rattle.nv_laws_sound.proofs.Rings.{next-below}
-use Rattle.nv_machine.specs.Doing.{Called, Doing, group_at, owner_in, replied, tag_at, tag_put, tags_put}
+use Rattle.nv_machine.specs.Doing.{Called, Doing, group_at, owner_in, tag_at, tag_put, tags_put}
 use Rattle.nv_machine.specs.Effects.{Effect, Store, WritesIn, copies_from, writes_to}
 use Rattle.nv_machine.specs.Entries.{IsInRing, IsOfShare, StoresEntry}
 use Rattle.nv_machine.specs.Machine.{bounce_effects, call, called, carried_out, carry_out, ended_at_once, form_effects, handed_on, share_effects, submit_by, submitted_on}

@@ -1,6 +1,6 @@
 -- Which bytes and blocks a physical entry names, whatever else is in the host's memory: those of one guest alone. Isolation between guests is the
 -- project's own (profile).
-use Rattle.std.specs.Prelude.{◌≡◌, ℕ, ◌+◌, ◌*◌, ◌<◌, ◌≤◌, ◌⊎◌, true, false, List, All, length, slice_get, Option, Some}
+use Rattle.std.specs.Prelude.{◌≡◌, ℕ, ◌+◌, ◌*◌, ◌<◌, ◌≤◌, ◌⊎◌, true, false, List, All, length, slice_get, Some}
 use Rattle.std.specs.List.{Contains}
 use Rattle.nv_entry.specs.Opcode.{io_opcode}
 use Rattle.nv_entry.specs.Range.{blocks_of, start_of}
@@ -10,7 +10,7 @@ use Rattle.nv_laws_sound.specs.Area.{Shows, ranges_of}
 use Rattle.nv_laws_sound.specs.Consistent.{IsPlanned}
 use Rattle.nv_laws_sound.specs.Side.{Side}
 use Rattle.nv_machine.specs.Doing.{tag_at}
-use Rattle.nv_machine.specs.Effects.{Effect, Store, writes_to}
+use Rattle.nv_machine.specs.Effects.{Effect, Store}
 use Rattle.nv_machine.specs.Machine.{share_effects}
 use Rattle.nv_mem.specs.Places.{At, Bucket, Place, places_of}
 use Rattle.nv_model.specs.Judge.{Manage, count_of, form_of, has_blocks, range_count_of}

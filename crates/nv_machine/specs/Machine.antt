@@ -18,13 +18,13 @@ use Rattle.nv_machine.specs.Effects.{Effect, Store, completion_stores, copies_fr
 use Rattle.nv_mem.specs.GuestMap.{all_mapped}
 use Rattle.nv_mem.specs.Places.{addresses, places_of}
 use Rattle.nv_mem.specs.declared.region.Region.{Region}
-use Rattle.nv_model.specs.Admin.{AdminEffect, Hidden, Shown, Structure, admin_command, answered, identify_reading, is_queue_full, shown}
+use Rattle.nv_model.specs.Admin.{Hidden, Shown, Structure, admin_command, identify_reading, is_queue_full, shown}
 use Rattle.nv_model.specs.Controller.{Controller, Deletion, Posted, completion_queue, doorbell, front, is_enabled, is_ready, post, ran_out, reg_read, reg_write}
 use Rattle.nv_model.specs.Controller.{took, with_submission}
 use Rattle.nv_model.specs.Judge.{Form, Manage, Transfer, Work, form_of, is_read}
 use Rattle.nv_model.specs.Limits.{part_size}
 use Rattle.nv_model.specs.Queue.{next_slot, sqe_size}
-use Rattle.nv_model.specs.Reading.{Faulty, Reading, Spells, TooLong}
+use Rattle.nv_model.specs.Reading.{Reading, Spells}
 use Rattle.nv_model.specs.Transcript.{Outcome, ReadDone, Settled, Wanted}
 use Rattle.nv_model.specs.declared.act.Act.{Act}
 use Rattle.nv_model.specs.declared.act.Act.TheVariants as act
@@ -66,17 +66,14 @@ list_fetch geometry s addr len tag (Some (Taken command reads)) = from_one (owne
     then hosts_from (regions_of o.given) addr len else [])
 list_fetch geometry s addr len tag _ = []
 
--- of a physical completion the dword with its phase tag
-abbrev pub phase_dword : (mediator lane : ℕ) → Lane → List ℕ
-phase_dword mediator lane l = range_with_len (completion_slot mediator lane l.head + 12) 4
-
+-- of a physical completion the dword with its phase tag is fetched first
 unfoldable pub fetch : Geometry → Event → Side → List ℕ
 fetch geometry (event.Guest guest a) s = from_one (owner_in geometry s guest) (λ o. act_fetch a o)
 fetch geometry (event.Admin guest) s = from_one (owner_in geometry s guest) (λ o. admin_fetch o)
 fetch geometry (event.Take guest queue lane) s = from_one (owner_in geometry s guest) (λ o.
     from_one (slice_get s.lanes lane) (λ l. if is_io_queue queue then front_entry o queue else []))
 fetch geometry (event.List lane tag addr len) s = list_fetch geometry s addr len tag (tag_at s lane tag)
-fetch geometry (event.Reap lane) s = from_one (slice_get s.lanes lane) (λ l. phase_dword geometry.mediator lane l)
+fetch geometry (event.Reap lane) s = from_one (slice_get s.lanes lane) (λ l. range_with_len (completion_slot geometry.mediator lane l.head + 12) 4)
 fetch geometry _ s = []
 
 -- whether a completion has the phase tag that the lane wants, by its last dword
@@ -92,18 +89,13 @@ fetch_then geometry _ s first = []
 -- ---- a guest's acts
 
 abbrev pub controlled : Option Controller → Owner → Doing → Called
-controlled None o m = replied reply.Ignored m
-controlled (Some c) o m = replied reply.Done (controller_put o.number c m)
-
-abbrev pub register_replied : Option ℕ → Doing → Called
-register_replied None m = replied reply.Ignored m
-register_replied (Some value) m = replied (reply.Bytes (number_bytes 4 value)) m
+controlled new o m = for_one new m (λ c. replied reply.Done (controller_put o.number c m))
 
 abbrev pub acted_in : Act → (fetched : List ℕ) → Owner → Doing → Called
 acted_in (act.Store addr bytes) fetched o m = if all_mapped (regions_of o.given) addr (length bytes)
     then replied reply.Done (told (stores (regions_of o.given) (addresses addr (length bytes)) bytes) m) else replied reply.Unmapped m
 acted_in (act.Load addr len) fetched o m = if all_mapped (regions_of o.given) addr len then replied (reply.Bytes fetched) m else replied reply.Unmapped m
-acted_in (act.RegRead offset) fetched o m = register_replied (reg_read o.controller offset) m
+acted_in (act.RegRead offset) fetched o m = for_one (reg_read o.controller offset) m (λ value. replied (reply.Bytes (number_bytes 4 value)) m)
 acted_in (act.RegWrite offset value) fetched o m = controlled (reg_write (shape_of o.given).mapped o.controller offset value) o m
 acted_in (act.Doorbell offset value) fetched o m = controlled (doorbell o.controller offset value) o m
 
@@ -112,8 +104,7 @@ acted_in (act.Doorbell offset value) fetched o m = controlled (doorbell o.contro
 -- what Identify stores: its structure, where the command's data pointer says
 abbrev pub structure_stores : List ℕ → Reading → List Region → List Effect
 structure_stores bytes (Spells pieces) regions = stores regions (places_of pieces) bytes
-structure_stores bytes (Faulty why) regions = []
-structure_stores bytes TooLong regions = []
+structure_stores bytes _ regions = []
 
 abbrev pub shown_stores : Shown → (entry : List ℕ) → Guest → List Effect
 shown_stores (Hidden why) entry given = []
@@ -138,22 +129,16 @@ answered_with None cid c effects o m = replied reply.Done (told effects (control
 answered_with (Some answer) cid c effects o m = completed_with (post c 0 answer.0 cid answer.1) effects o m
 
 -- the admin commands are those of the private controller; none of them depends on memory
-abbrev pub carried_by : AdminEffect → (cid : ℕ) → List Effect → Owner → Doing → Called
-carried_by done cid effects o m = answered_with done.answer cid done.controller effects o m
-
-abbrev pub no_memory : ℕ → ℕ
-no_memory addr = 0
-
 abbrev pub front_done : Option ℕ → (entry : List ℕ) → Owner → Doing → Called
 front_done None entry o m = replied reply.Idle m
 front_done (Some addr) entry o m = if is_queue_full (completion_queue o.controller 0) then replied reply.Held m else
-    carried_by (admin_command (shape_of o.given).mapped (shape_of o.given).blocks entry (took o.controller 0) no_memory) (cid_of entry)
-    (admin_stores entry o.given) o m
+    (let done = admin_command (shape_of o.given).mapped (shape_of o.given).blocks entry (took o.controller 0) (λ at. 0) in
+    answered_with done.answer (cid_of entry) done.controller (admin_stores entry o.given) o m)
 
 abbrev pub deletion_done : Deletion → Owner → Doing → Called
 deletion_done d o m = if not (slice_index o.controller.taken d.queue == 0) then replied reply.Idle m else
     if is_queue_full (completion_queue o.controller 0) then replied reply.Held m else
-    carried_by (answered 0 (record (with_submission o.controller d.queue None) { deletion = None }) no_memory) d.cid [] o m
+    answered_with (Some (0, done_with Success)) d.cid (record (with_submission o.controller d.queue None) { deletion = None }) [] o m
 
 abbrev pub ready_done : Option Deletion → (entry : List ℕ) → Owner → Doing → Called
 ready_done (Some d) entry o m = deletion_done d o m

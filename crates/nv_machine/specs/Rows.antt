@@ -1,13 +1,11 @@
 -- Worked examples: the mediator's side that calls start from, and what is seen of a call. Two guests have their memory in the host at 100000h and 200000h and
 -- 64 blocks of the disk from 1000 and 2000 on; the mediator's area begins at 400000h. So lane 0 has its submission ring at 400000h, its completion ring at
 -- 402000h, and of tag 0 the list page at 403000h and bounce pages from 404000h on; tag 1 has them at 424000h and from 425000h on (profile).
-use Rattle.std.specs.Prelude.{ℕ, false, List, [], ◌∷◌, ◌++◌, drop, map, replicate, slice_get, slice_set, true, Option, Some, None}
-use Rattle.std.specs.List.{range_with_len}
+use Rattle.std.specs.Prelude.{ℕ, false, List, [], ◌∷◌, ◌++◌, drop, replicate, slice_set, true, Option, Some, None}
 use Rattle.nv_entry.specs.Status.{StatusField, status}
 use Rattle.nv_entry.specs.declared.opcode.IoOpcode.TheVariants as opcode
 use Rattle.nv_laws_sound.specs.Side.{Side}
-use Rattle.nv_machine.specs.Doing.{Called, tag_at}
-use Rattle.nv_machine.specs.Effects.{Copy, Effect, Store}
+use Rattle.nv_machine.specs.Effects.{Effect}
 use Rattle.nv_machine.specs.Machine.{call, fetch, fetch_then}
 use Rattle.nv_mem.specs.declared.piece.Piece.TheVariants as piece
 use Rattle.nv_model.specs.Controller.{Controller, no_queues, opening}
@@ -16,10 +14,10 @@ use Rattle.nv_model.specs.Queue.{new_completion, new_submission}
 use Rattle.nv_model.specs.Rows.{by_prp, by_sgl, data_block}
 use Rattle.nv_model.specs.RowsRuns.{admin_entry}
 use Rattle.nv_model.specs.declared.reply.Reply.{Reply}
-use Rattle.nv_world_model.specs.Plan.{Bounced, Direct, Plan}
+use Rattle.nv_world_model.specs.Plan.{Bounced, Plan}
 use Rattle.nv_world_model.specs.Rows.{controller_with, set_up}
 use Rattle.nv_world_model.specs.Share.{Share}
-use Rattle.nv_world_model.specs.World.{Command, Ended, Flying, Free, Lane, Queued, Tag, Taken, opening_lane}
+use Rattle.nv_world_model.specs.World.{Command, Ended, Flying, Free, Queued, Tag, Taken, opening_lane}
 use Rattle.nv_world_model.specs.declared.event.Event.{Event}
 
 -- ---- what is seen
