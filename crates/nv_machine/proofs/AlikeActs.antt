@@ -1,18 +1,20 @@
 -- What calls for a guest do comes to the same in sides that are alike to it.
-use Rattle.std.proofs.Common.{◌≡◌, ℕ, Bool, true, false, cond, ◌&&◌, ◌==◌, replicate, List, [], ◌∷◌, ◌++◌, All, slice_get, take, Option, Some, None}
+use Rattle.std.proofs.Common.{◌≡◌, ℕ, ◌+◌, Bool, true, false, cond, ◌&&◌, ◌==◌, replicate, List, [], ◌∷◌, ◌++◌, All, slice_get, take, Option, Some, None}
 use Rattle.std.proofs.Common.{refl, sym, ap, subst}
 use Rattle.nv_entry.specs.Completion.{cid_of as completed_cid, phase_of, sqid_of, status_of}
 use Rattle.nv_entry.specs.Status.{StatusField, bit}
 use Rattle.nv_entry.specs.StatusCode.{done_with}
 use Rattle.nv_entry.specs.declared.status_code.StatusCode.TheVariants.{Success}
 use Rattle.nv_entry.specs.Submission.{cid_of}
+use Rattle.nv_machine.proofs.AdminWords.{no_memory}
 use Rattle.nv_machine.specs.Alike.{ComeToAlike}
+use Rattle.nv_entry.specs.Layout.{number_bytes}
 use Rattle.nv_machine.specs.Doing.{Called, Doing, controller_put, for_ended, for_one, for_owner, for_taken, lane_changed, replied, stray}
 use Rattle.nv_machine.specs.Doing.{tag_at, tag_put}
 use Rattle.nv_machine.specs.Effects.{Effect}
 use Rattle.nv_machine.specs.Machine.{acted_in, admin_stores, administered_in, answered_with, carried_out, carry_out, completed_with, controlled}
 use Rattle.nv_machine.specs.Machine.{deletion_done, ended_at, ended_at_once, front_done, handed_on, in_order, is_flying, is_new}
-use Rattle.nv_machine.specs.Machine.{no_memory, post_all, post_at, post_by, ready_done, reap, reaped_by, register_replied}
+use Rattle.nv_machine.specs.Machine.{post_all, post_at, post_by, ready_done, reap, reaped_by}
 use Rattle.nv_machine.specs.Machine.{submit_by, submitted_on, take_from, take_front, take_tags}
 use Rattle.nv_machine.proofs.AlikeGroups.{claimed-same, delivery-alike}
 use Rattle.nv_machine.proofs.AlikeSides.{AreFound, ChangesAlike, AreLanes, AreSame, BothLanes, NoLane, lanes-found, same-controller, same-lane, same-replied, same-tag, same-tags}
@@ -34,6 +36,8 @@ use Rattle.nv_world_model.specs.ShareArea.{is_no_command}
 use Rattle.nv_world_model.specs.Step.{completion_read, deciding, is_io_queue}
 use Rattle.nv_world_model.specs.View.{LaneNumbers, is_tag_of}
 use Rattle.nv_world_model.specs.World.{Command, Ended, Flying, Free, Lane, Tag, Taken}
+use Rattle.nv_world_model.specs.declared.event.Event.{Event}
+use Rattle.nv_world_model.specs.declared.event.Event.TheVariants as event
 
 -- the number of an owner
 pub owner-number : (number : ℕ) (g : _) (c : _) (o : Owner) → owner_by number g c ≡ Some o → o.number ≡ number
@@ -105,7 +109,7 @@ module _ (number : ℕ) where
       both-controlled None = told-only reply.Ignored
       both-controlled (Some c) = same-replied number reply.Done _ _ (put c m n same)
 
-      pub both-register : (value : Option ℕ) → Alike (register_replied value m) (register_replied value n)
+      pub both-register : (value : Option ℕ) → Alike (for_one value m (λ value. replied (reply.Bytes (number_bytes 4 value)) m)) (for_one value n (λ value. replied (reply.Bytes (number_bytes 4 value)) n))
       both-register None = told-only reply.Ignored
       both-register (Some value) = told-only _
 

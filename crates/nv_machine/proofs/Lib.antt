@@ -9,6 +9,7 @@ pub mod SubmitCalls
 pub mod ReapCalls
 pub mod PostCalls
 pub mod ActCalls
+pub mod AdminWords
 pub mod AdminDone
 pub mod AdminCalls
 pub mod EventCalls
@@ -17,6 +18,18 @@ pub mod OwnEntries
 pub mod Elims
 pub mod OwnStores
 pub mod Orders
+pub mod CallWalks
+pub mod ContainedFetch
+pub mod SideWorlds
+pub mod OwnTags
+pub mod ContainedOthers
+pub mod OwnEffects
+pub mod SubmitEffects
+pub mod ContainedEffects
+pub mod PagesKept
+pub mod FetchedHosts
+pub mod Reached
+pub mod ContainedCalls
 pub mod AlikeSides
 pub mod AlikeGroups
 pub mod AlikeActs

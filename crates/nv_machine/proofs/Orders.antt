@@ -1,5 +1,5 @@
 -- A Post and an Admin end with the completion that they post.
-use Rattle.std.proofs.Common.{◌≡◌, ℕ, ◌+◌, ◌≤◌, Bool, false, not, ◌==◌, nat_lt, nat_le, ◌&&◌, List, [], ◌∷◌, ◌++◌, All, drop, flat_map, length, slice_get}
+use Rattle.std.proofs.Common.{◌≡◌, ℕ, ◌+◌, ◌-◌, ◌≤◌, Bool, false, not, ◌==◌, nat_lt, nat_le, ◌&&◌, List, [], ◌∷◌, ◌++◌, All, drop, flat_map, length, slice_get}
 use Rattle.std.proofs.Common.{slice_index, take, Option, Some, None, arith, refl, set, sym, ap, ◌∙◌, subst}
 use Rattle.std.specs.List.{Contains}
 use Rattle.std.proofs.lemmas.Bool.Decides.{nat_tests}
@@ -16,11 +16,12 @@ use Rattle.nv_entry.specs.declared.status_code.StatusCode.{StatusCode}
 use Rattle.nv_laws_sound.specs.LaidOut.{IsLaidOut}
 use Rattle.nv_laws_sound.specs.Side.{IsKept, Side}
 use Rattle.nv_laws_sound.proofs.Lists.{some-same}
+use Rattle.nv_machine.proofs.AdminWords.{carried_by, no_memory}
 use Rattle.nv_machine.specs.Doing.{Called, Doing, controller_put, group_at, owner_in, replied, tag_at, tag_put, tags_put, told}
 use Rattle.nv_machine.specs.Effects.{Effect, Store, completion_stores, store_at, writes_to}
 use Rattle.nv_machine.specs.InWorld.{AreOnPages}
-use Rattle.nv_machine.specs.Machine.{admin_stores, administered_in, answered_with, call, called, carried_by, completed_with, deletion_done, delivered_by, delivered_from}
-use Rattle.nv_machine.specs.Machine.{delivery, front_done, no_memory, post_all, post_at, post_by, ready_done, statuses_of}
+use Rattle.nv_machine.specs.Machine.{admin_stores, administered_in, answered_with, call, called, completed_with, deletion_done, delivered_by, delivered_from}
+use Rattle.nv_machine.specs.Machine.{delivery, front_done, post_all, post_at, post_by, ready_done, statuses_of}
 use Rattle.nv_machine.specs.Order.{Delivered, EndsWith, IsDelivered, IsInOrder, IsStructure, Posts, PostsNone}
 use Rattle.nv_machine.proofs.AdminDone.{admin_command-done}
 use Rattle.nv_machine.proofs.Effects.{page-of-entry}

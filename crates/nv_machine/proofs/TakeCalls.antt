@@ -60,7 +60,7 @@ module _ (w : World) (m : Doing) (o : Owner) where
       both-cond w m (all_mapped (regions_of o.given) addr len) _ _ _ _ (λ there.
       both-cond w m (nat_le 1 len && nat_le len part_size) _ _ _ _
       (λ fits. ap (λ (bytes : List ℕ). called_in w
-          (replied (reply.Bytes bytes) (tag_put lane tag (Taken command (reads ++ record { addr = addr; bytes = bytes } ∷ [])) m))) (is there fits))
+      (replied (reply.Bytes bytes) (tag_put lane tag (Taken command (reads ++ record { addr = addr; bytes = bytes } ∷ [])) m))) (is there fits))
       (λ no. refl)) (λ no. refl)
 
 -- ---- GiveUp

@@ -3,81 +3,16 @@
 
 mod client;
 mod guest;
+mod program;
 
 use std::io::Read;
-use std::process::{Child, Command, Output, Stdio};
 use std::time::{Duration, Instant};
 
 use client::hostile::{odd_descriptors, Hostile};
 use client::Client;
-use guest::{configuration, is_real, Folder, Guest};
-use nix::sys::signal::{kill, Signal};
-use nix::unistd::Pid;
-
-/// The program, which ends with this value.
-struct Program(Child);
-
-impl Program {
-    fn start(folder: &Folder, text: &str, words: &[&str]) -> Self {
-        let path = folder.path("configuration");
-        std::fs::write(&path, text).unwrap();
-        let child = Command::new(env!("CARGO_BIN_EXE_nvmed-host"))
-            .args(words)
-            .arg(path)
-            .stdin(Stdio::null())
-            .stdout(Stdio::null())
-            .stderr(Stdio::piped())
-            .spawn()
-            .unwrap();
-        Self(child)
-    }
-
-    fn signal(&self, signal: Signal) {
-        kill(Pid::from_raw(self.0.id() as i32), signal).unwrap();
-    }
-
-    fn status(&mut self) -> i32 {
-        self.0.wait().unwrap().code().unwrap()
-    }
-
-    fn said(&mut self) -> String {
-        let mut text = String::new();
-        self.0.stderr.take().unwrap().read_to_string(&mut text).unwrap();
-        text
-    }
-
-    /// Ticks of processor time, of all threads.
-    fn ticks(&self) -> u64 {
-        let stat = std::fs::read_to_string(format!("/proc/{}/stat", self.0.id())).unwrap();
-        let fields: Vec<&str> = stat.rsplit_once(')').unwrap().1.split_whitespace().collect();
-        fields[11].parse::<u64>().unwrap() + fields[12].parse::<u64>().unwrap()
-    }
-}
-
-impl Drop for Program {
-    fn drop(&mut self) {
-        let _ = self.0.kill();
-        let _ = self.0.wait();
-    }
-}
-
-fn run(words: &[&str]) -> (i32, String, String) {
-    let Output { status, stdout, stderr } = Command::new(env!("CARGO_BIN_EXE_nvmed-host"))
-        .args(words)
-        .output()
-        .unwrap();
-    let text = |bytes| String::from_utf8(bytes).unwrap();
-    (status.code().unwrap(), text(stdout), text(stderr))
-}
-
-fn connect(folder: &Folder, name: &str) -> Guest {
-    let begin = Instant::now();
-    while !folder.path(name).exists() {
-        assert!(begin.elapsed() < Duration::from_secs(10));
-        std::thread::sleep(Duration::from_millis(5));
-    }
-    Guest::connect(&folder.path(name)).unwrap()
-}
+use guest::{configuration, is_real, Folder};
+use nix::sys::signal::Signal;
+use program::{connect, run, Program};
 
 #[test]
 fn words_and_statuses() {

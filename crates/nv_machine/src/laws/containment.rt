@@ -1,9 +1,8 @@
 //! Whatever was fetched, a call touches nothing of another guest.
 
 ghost use Rattle.std.specs.Prelude.{◌≡◌, ℕ, List, Some, None, slice_get};
-ghost use Rattle.nv_laws_sound.specs.Mediators.{IsMediators};
 ghost use Rattle.nv_laws_sound.specs.Side.{IsKept, opening_side};
-ghost use Rattle.nv_machine.specs.Contained.{AreFetched, IsContained, IsFetched, after_calls};
+ghost use Rattle.nv_machine.specs.Contained.{AreFetched, IsContained, after_calls};
 ghost use Rattle.nv_machine.specs.InWorld.{AreOnPages};
 ghost use Rattle.nv_mem.specs.GuestMap.{IsSound};
 ghost use Rattle.nv_world_model.specs.Geometry.{Guest};
@@ -16,6 +15,17 @@ pub fn each_call_is_contained()
     ensures { (s : SetUp) (calls : List (Event × List ℕ)) (e : Event) (fetched : List ℕ) → host_refusal_of s ≡ None →
         ((number : ℕ) (guest : Guest) → slice_get s.geometry.guests number ≡ Some guest → IsSound guest.memory_map) →
         AreFetched s.geometry calls (opening_side s.geometry s.lanes) →
-        IsFetched s.geometry e (after_calls s.geometry calls (opening_side s.geometry s.lanes)) fetched →
         IsContained s.geometry e fetched (after_calls s.geometry calls (opening_side s.geometry s.lanes)) }
+{}
+
+/// The mediator's side keeps what it keeps in a world, and its guests' queues begin with pages, whichever bytes were fetched.
+pub fn sides_stay_sound()
+    ensures kept { (s : SetUp) (calls : List (Event × List ℕ)) → host_refusal_of s ≡ None →
+        ((number : ℕ) (guest : Guest) → slice_get s.geometry.guests number ≡ Some guest → IsSound guest.memory_map) →
+        AreFetched s.geometry calls (opening_side s.geometry s.lanes) →
+        IsKept s.geometry (after_calls s.geometry calls (opening_side s.geometry s.lanes)) }
+    ensures pages { (s : SetUp) (calls : List (Event × List ℕ)) → host_refusal_of s ≡ None →
+        ((number : ℕ) (guest : Guest) → slice_get s.geometry.guests number ≡ Some guest → IsSound guest.memory_map) →
+        AreFetched s.geometry calls (opening_side s.geometry s.lanes) →
+        AreOnPages (after_calls s.geometry calls (opening_side s.geometry s.lanes)).controllers }
 {}

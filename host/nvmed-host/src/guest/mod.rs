@@ -254,14 +254,19 @@ impl Guest {
                 },
                 _ => return Ok(None),
             };
-            // such as too many open files: it is tried again later
-            let accepted = listener.accept().unwrap_or_else(|error| {
-                self.lines.warn(format_args!("its connection cannot be taken: {error}"));
-                None
-            });
-            if accepted.is_none() {
-                wait(&[listener.as_fd(), self.outbox.fd()], most).map_err(Lost::Wait)?;
-            }
+            let accepted = match listener.accept() {
+                Ok(Some(socket)) => Some(socket),
+                Ok(None) => {
+                    wait(&[listener.as_fd(), self.outbox.fd()], most).map_err(Lost::Wait)?;
+                    None
+                }
+                // such as too many open files: it is tried again later; until then the socket stays readable, so it is not looked at
+                Err(error) => {
+                    self.lines.warn(format_args!("its connection cannot be taken: {error}"));
+                    wait(&[self.outbox.fd()], LOOK).map_err(Lost::Wait)?;
+                    None
+                }
+            };
             self.stopped |= self.outbox.take().stop;
             if self.stopped {
                 return Err(Lost::Stop);
