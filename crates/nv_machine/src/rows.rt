@@ -7,7 +7,9 @@ ghost use Rattle.nv_machine.specs.Doing.{tag_at};
 ghost use Rattle.nv_machine.specs.Effects.{Copy, Effect, Store};
 ghost use Rattle.nv_machine.specs.Rows.{asked, asked_then, at_rest, completed_by, effects_of, ended_second, flying_second, full_second, identify_active};
 ghost use Rattle.nv_machine.specs.Rows.{last_dwords, namespace_one, odd_read, odd_share, odd_write, of_second, one_admin, page_read, reply_to, side_after};
-ghost use Rattle.nv_machine.specs.Rows.{taken_first, taken_second, three_pages_read};
+ghost use Rattle.nv_machine.specs.Rows.{AreAlikeToSecond, IsSeconds, entry_of, of_first, side_with, taken_first, taken_second, three_pages_read, with_head};
+ghost use Rattle.nv_model.specs.Rows.{block_range};
+ghost use Rattle.nv_world_model.specs.Rows.{controller_with};
 ghost use Rattle.nv_model.specs.declared.act.Act.TheVariants as act;
 ghost use Rattle.nv_model.specs.declared.reply.Reply.TheVariants as reply;
 ghost use Rattle.nv_world_model.specs.World.{Ended, Free, Taken};
@@ -98,4 +100,45 @@ pub fn posts()
     ensures an_identify { effects_of (event.Admin 1) identify_active one_admin
         ≡ Store 0x204000 (1 ∷ []) ∷ map (λ n. Store (0x204001 + n) (0 ∷ [])) (range_with_len 0 4095)
         ++ Store 0x211000 (replicate 8 0 ++ 1 ∷ 0 ∷ 0 ∷ 0 ∷ []) ∷ Store 0x21100c (9 ∷ 0 ∷ 1 ∷ 0 ∷ []) ∷ [] }
+{}
+
+/// Physical entries that are not the second guest's own.
+#[tactic(none)]
+pub fn entries()
+    // The identifier of another tag.
+    ensures another_identifier { IsSeconds [] (entry_of 0x10002 0x203000 2005 0 7) → ⊥ }
+    // A fused command, and one by SGL.
+    ensures fused { IsSeconds [] (entry_of 0x0102 0x203000 2005 0 7) → ⊥ }
+    ensures by_sgl { IsSeconds [] (entry_of 0x4002 0x203000 2005 0 7) → ⊥ }
+    // The guest's own block 5, which is nobody's on the disk; the first guest's; and eight blocks of which the last is behind the guest's 64.
+    ensures a_block_that_is_not_translated { IsSeconds [] (entry_of 2 0x203000 5 0 7) → ⊥ }
+    ensures the_neighbours_block { IsSeconds [] (entry_of 2 0x203000 1005 0 7) → ⊥ }
+    ensures a_block_behind_the_extent { IsSeconds [] (entry_of 2 0x203000 2057 0 7) → ⊥ }
+    ensures a_block_with_a_high_half { IsSeconds [] (entry_of 2 0x203000 2005 1 7) → ⊥ }
+    // The first guest's memory, the guest's own address, the tag's list page, and another tag's bounce page.
+    ensures the_neighbours_memory { IsSeconds [] (entry_of 2 0x103000 2005 0 7) → ⊥ }
+    ensures an_address_that_is_not_translated { IsSeconds [] (entry_of 2 0x3000 2005 0 7) → ⊥ }
+    ensures the_list_page { IsSeconds [] (entry_of 2 0x403000 2005 0 7) → ⊥ }
+    ensures another_tags_page { IsSeconds [] (entry_of 2 0x425000 2005 0 7) → ⊥ }
+    ensures the_ring { IsSeconds [] (entry_of 2 0x400000 2005 0 7) → ⊥ }
+    // An offset that PRP does not allow: no bytes are named.
+    ensures no_bytes { IsSeconds [] (entry_of 2 0x203002 2005 0 7) → ⊥ }
+    // A Dataset Management whose range is the first guest's block, or the guest's last and one more.
+    ensures the_neighbours_range { IsSeconds (block_range 1000 1) (entry_of 9 0x404000 0 4 0) → ⊥ }
+    ensures a_range_behind_the_extent { IsSeconds (block_range 2063 2) (entry_of 9 0x404000 0 4 0) → ⊥ }
+{}
+
+/// What of two sides counts for the second guest.
+#[tactic(none)]
+pub fn sides()
+    // Another command of the first guest in its tag, and another controller of it, do not.
+    ensures the_others_command { AreAlikeToSecond (side_with 16 (Taken (of_first odd_read) [] ∷ Free ∷ [])) (side_with 16 (Taken (of_first odd_write) [] ∷ Free ∷ [])) }
+    ensures the_others_controller { AreAlikeToSecond at_rest (record at_rest { controllers = controller_with 16 0 ∷ controller_with 16 1 ∷ [] }) }
+    // Another command of its own in its tag does; so does its controller.
+    ensures its_command { AreAlikeToSecond (taken_first odd_read) (taken_first odd_write) → ⊥ }
+    ensures its_controller { AreAlikeToSecond at_rest (record at_rest { controllers = controller_with 16 1 ∷ controller_with 16 0 ∷ [] }) → ⊥ }
+    // So do which tags are free, a lane's head, and a ring's tail.
+    ensures a_tag_of_the_others { AreAlikeToSecond at_rest (side_with 16 (Taken (of_first odd_read) [] ∷ Free ∷ [])) → ⊥ }
+    ensures a_head { AreAlikeToSecond at_rest (with_head 1 at_rest) → ⊥ }
+    ensures a_tail { AreAlikeToSecond at_rest (record at_rest { tails = 1 ∷ [] }) → ⊥ }
 {}
