@@ -3,13 +3,14 @@
 ghost use Rattle.std.specs.Prelude.{◌≡◌, ℕ, ◌+◌, [], ◌∷◌, ◌++◌, false, map, replicate, slice_get, true, Some, None};
 ghost use Rattle.std.specs.List.{range_with_len};
 ghost use Rattle.nv_entry.specs.Status.{status};
+ghost use Rattle.nv_machine.specs.Contained.{IsOwn, LeavesOthers, MayDo, MayFetch};
 ghost use Rattle.nv_machine.specs.Doing.{tag_at};
 ghost use Rattle.nv_machine.specs.Effects.{Copy, Effect, Store};
 ghost use Rattle.nv_machine.specs.Rows.{asked, asked_then, at_rest, completed_by, effects_of, ended_second, flying_second, full_second, identify_active};
 ghost use Rattle.nv_machine.specs.Rows.{last_dwords, namespace_one, odd_read, odd_share, odd_write, of_second, one_admin, page_read, reply_to, side_after};
 ghost use Rattle.nv_machine.specs.Rows.{AreAlikeToSecond, IsSeconds, entry_of, of_first, side_with, taken_first, taken_second, three_pages_read, with_head};
 ghost use Rattle.nv_model.specs.Rows.{block_range};
-ghost use Rattle.nv_world_model.specs.Rows.{controller_with};
+ghost use Rattle.nv_world_model.specs.Rows.{controller_with, set_up};
 ghost use Rattle.nv_model.specs.declared.act.Act.TheVariants as act;
 ghost use Rattle.nv_model.specs.declared.reply.Reply.TheVariants as reply;
 ghost use Rattle.nv_world_model.specs.World.{Ended, Free, Taken};
@@ -141,4 +142,43 @@ pub fn sides()
     ensures a_tag_of_the_others { AreAlikeToSecond at_rest (side_with 16 (Taken (of_first odd_read) [] ∷ Free ∷ [])) → ⊥ }
     ensures a_head { AreAlikeToSecond at_rest (with_head 1 at_rest) → ⊥ }
     ensures a_tail { AreAlikeToSecond at_rest (record at_rest { tails = 1 ∷ [] }) → ⊥ }
+{}
+
+/// Host addresses, while a Read of the second guest is with the physical controller in tag 1 and tag 0 is free.
+#[tactic(none)]
+pub fn addresses()
+    // Its memory and the pages of its tag are its own.
+    ensures its_memory { IsOwn set_up flying_second 1 0x203000 }
+    ensures its_tags_list { IsOwn set_up flying_second 1 0x424000 }
+    ensures its_tags_last_byte { IsOwn set_up flying_second 1 0x444fff }
+    // The first guest's memory, a page of no guest, the page of a free tag, and what lies behind the pages of its tag are not.
+    ensures the_neighbours_memory { IsOwn set_up flying_second 1 0x103000 → ⊥ }
+    ensures behind_its_memory { IsOwn set_up flying_second 1 0x220000 → ⊥ }
+    ensures a_free_tags_page { IsOwn set_up flying_second 1 0x404000 → ⊥ }
+    ensures behind_its_tags_pages { IsOwn set_up flying_second 1 0x445000 → ⊥ }
+    ensures the_ring { IsOwn set_up flying_second 1 0x400000 → ⊥ }
+    // The pages of its tag are not the first guest's.
+    ensures not_the_neighbours { IsOwn set_up flying_second 0 0x424000 → ⊥ }
+    // A Reap may fetch the completion in the slot that is read next, and no other byte.
+    ensures a_completion { MayFetch set_up (event.Reap 0) flying_second None 0x40200f }
+    ensures the_next_completion { MayFetch set_up (event.Reap 0) flying_second None 0x402010 → ⊥ }
+    ensures before_the_completion { MayFetch set_up (event.Reap 0) flying_second None 0x401fff → ⊥ }
+    // A Take may fetch of the guest's memory alone, and what is for no guest nothing.
+    ensures an_entry { MayFetch set_up (event.Take 1 1 0) flying_second (Some 1) 0x213000 }
+    ensures the_neighbours_entry { MayFetch set_up (event.Take 1 1 0) flying_second (Some 1) 0x113000 → ⊥ }
+    ensures a_page { MayFetch set_up (event.Take 1 1 0) flying_second (Some 1) 0x425000 → ⊥ }
+    ensures for_nobody { MayFetch set_up (event.Take 1 1 0) flying_second None 0x213000 → ⊥ }
+    // A byte may be copied from its tag's page to its memory, and not to the first guest's, nor from there.
+    ensures a_copy { MayDo set_up flying_second flying_second (Some 1) (Copy 0x425000 0x203002) }
+    ensures a_copy_to_the_neighbour { MayDo set_up flying_second flying_second (Some 1) (Copy 0x425000 0x103002) → ⊥ }
+    ensures a_copy_from_the_neighbour { MayDo set_up flying_second flying_second (Some 1) (Copy 0x103002 0x425000) → ⊥ }
+    // Bytes may be stored of which each is its own; in the ring only from the tail up to the one behind the call, of which there is none here.
+    ensures a_store { MayDo set_up flying_second flying_second (Some 1) (Store 0x21ffff (7 ∷ [])) }
+    ensures a_store_over_the_end { MayDo set_up flying_second flying_second (Some 1) (Store 0x21ffff (7 ∷ 7 ∷ [])) → ⊥ }
+    ensures a_store_for_nobody { MayDo set_up flying_second flying_second None (Store 0x203000 (7 ∷ [])) → ⊥ }
+    // A call for the second guest may change its tag and its controller, and none of the first's.
+    ensures its_tag_may_change { LeavesOthers (Some 1) flying_second (side_with 16 (Free ∷ Free ∷ [])) }
+    ensures anothers_may_not { LeavesOthers (Some 0) flying_second (side_with 16 (Free ∷ Free ∷ [])) → ⊥ }
+    ensures no_tag_may_become_anothers { LeavesOthers (Some 1) flying_second (side_with 16 (Taken (of_first odd_read) [] ∷ Free ∷ [])) → ⊥ }
+    ensures anothers_controller_may_not { LeavesOthers (Some 1) at_rest (record at_rest { controllers = controller_with 16 0 ∷ controller_with 16 1 ∷ [] }) → ⊥ }
 {}
