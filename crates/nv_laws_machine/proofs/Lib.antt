@@ -1,1 +1,2 @@
 pub mod Tied
+pub mod Reaps

@@ -1,7 +1,8 @@
 //! What ties the code to the machine.
 
-ghost use Rattle.std.specs.Prelude.{◌≡◌, ℕ, List, Some, length};
-ghost use Rattle.nv_core.specs.Front.{IsBeside, IsStepBeside};
+ghost use Rattle.std.specs.Prelude.{◌≡◌, ℕ, List, Option, Some, length, slice_get};
+ghost use Rattle.nv_core.specs.Front.{IsBeside, IsReaped, IsStepBeside};
+ghost use Rattle.nv_core.specs.Reaping.{answer_of};
 ghost use Rattle.nv_laws_machine.specs.Made.{IsMachines};
 ghost use Rattle.nv_laws_sound.specs.LaidOut.{IsLaidOut};
 ghost use Rattle.nv_laws_sound.specs.Mediators.{IsMediators};
@@ -11,6 +12,8 @@ ghost use Rattle.nv_model.specs.declared.reply.Reply.{Reply};
 ghost use Rattle.nv_world_model.specs.Geometry.{Geometry};
 ghost use Rattle.nv_world_model.specs.World.{World};
 ghost use Rattle.nv_world_model.specs.declared.event.Event.{Event};
+ghost use Rattle.nv_world_model.specs.declared.event.Event.TheVariants as event;
+ghost use Rattle.nv_model.specs.declared.reply.Reply.TheVariants as reply;
 
 /// A call that is the definition's step of each world that has this side and this memory is the machine's call: its reply, the side after it but for the
 /// places of parts, and its effects in memory.
@@ -19,4 +22,12 @@ pub fn a_call_is_the_machines()
         IsLaidOut host_bytes (length old.lanes) geometry → IsKept geometry old → AreOnPages old.controllers →
         ((w : World) → IsBeside old before w → IsStepBeside geometry e w r new after) →
         IsMachines geometry e old before (Some r) new after }
+{}
+
+/// So is a Reap, whatever is in memory: it is answered by the slot that is read next, and has no reply where its completion is stray.
+pub fn a_reap_is_the_machines()
+    ensures { (geometry : Geometry) (old new : Side) (before : List ℕ) (lane : ℕ) (answer : Option Reply) →
+        answer ≡ answer_of geometry lane (slice_get old.lanes lane) before →
+        (answer ≡ Some reply.Done → IsReaped geometry lane old new before) → ((answer ≡ Some reply.Done → ⊥) → new ≡ old) → new.tails ≡ old.tails →
+        IsMachines geometry (event.Reap lane) old before answer new before }
 {}
