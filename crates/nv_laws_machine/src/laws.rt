@@ -3,6 +3,7 @@
 ghost use Rattle.std.specs.Prelude.{◌≡◌, ℕ, List, None, Option, Some, length, slice_get};
 ghost use Rattle.nv_core.specs.Front.{IsBeside, IsReaped, IsStepBeside};
 ghost use Rattle.nv_core.specs.Reaping.{answer_of};
+ghost use Rattle.nv_laws_machine.specs.Calls.{AreCalls};
 ghost use Rattle.nv_laws_machine.specs.Made.{AreMachines, IsMachines, Made, side_behind};
 ghost use Rattle.nv_laws_sound.specs.LaidOut.{IsLaidOut};
 ghost use Rattle.nv_laws_sound.specs.Mediators.{IsMediators};
@@ -35,11 +36,14 @@ pub fn a_reap_is_the_machines()
         IsMachines geometry (event.Reap lane) old before answer new before }
 {}
 
-/// So from the start of a set-up that is not refused, whichever calls were made over whichever memories, each call of the code is contained. Between the calls
-/// guests and the physical controller leave in memory what they like: no log has to lead there.
+/// So from the start of a set-up that is not refused, whichever calls the code has made over whichever memories, each of them was the machine's, and each call
+/// is contained. Between the calls guests and the physical controller leave in memory what they like: no log has to lead there.
 pub fn the_code_is_contained()
-    ensures { (s : SetUp) (made : List Made) (e : Event) (fetched : List ℕ) → host_refusal_of s ≡ None →
+    ensures machines { (s : SetUp) (made : List Made) → host_refusal_of s ≡ None →
         ((number : ℕ) (guest : Guest) → slice_get s.geometry.guests number ≡ Some guest → IsSound guest.memory_map) →
-        AreMachines s.geometry made (opening_side s.geometry s.lanes) →
+        AreCalls s.geometry made (opening_side s.geometry s.lanes) → AreMachines s.geometry made (opening_side s.geometry s.lanes) }
+    ensures contained { (s : SetUp) (made : List Made) (e : Event) (fetched : List ℕ) → host_refusal_of s ≡ None →
+        ((number : ℕ) (guest : Guest) → slice_get s.geometry.guests number ≡ Some guest → IsSound guest.memory_map) →
+        AreCalls s.geometry made (opening_side s.geometry s.lanes) →
         IsContained s.geometry e fetched (side_behind made (opening_side s.geometry s.lanes)) }
 {}
