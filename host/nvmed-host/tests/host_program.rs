@@ -3,63 +3,17 @@
 
 mod client;
 mod guest;
+mod program;
 
 use std::io::Read;
-use std::process::{Child, Command, Output, Stdio};
+use std::process::{Command, Output};
 use std::time::{Duration, Instant};
 
 use client::hostile::{odd_descriptors, Hostile};
 use client::Client;
-use guest::{configuration, is_real, Folder, Guest};
-use nix::sys::signal::{kill, Signal};
-use nix::unistd::Pid;
-
-/// The program, which ends with this value.
-struct Program(Child);
-
-impl Program {
-    fn start(folder: &Folder, text: &str, words: &[&str]) -> Self {
-        let path = folder.path("configuration");
-        std::fs::write(&path, text).unwrap();
-        let child = Command::new(env!("CARGO_BIN_EXE_nvmed-host"))
-            .args(words)
-            .arg(path)
-            .stdin(Stdio::null())
-            .stdout(Stdio::null())
-            .stderr(Stdio::piped())
-            .spawn()
-            .unwrap();
-        Self(child)
-    }
-
-    fn signal(&self, signal: Signal) {
-        kill(Pid::from_raw(self.0.id() as i32), signal).unwrap();
-    }
-
-    fn status(&mut self) -> i32 {
-        self.0.wait().unwrap().code().unwrap()
-    }
-
-    fn said(&mut self) -> String {
-        let mut text = String::new();
-        self.0.stderr.take().unwrap().read_to_string(&mut text).unwrap();
-        text
-    }
-
-    /// Ticks of processor time, of all threads.
-    fn ticks(&self) -> u64 {
-        let stat = std::fs::read_to_string(format!("/proc/{}/stat", self.0.id())).unwrap();
-        let fields: Vec<&str> = stat.rsplit_once(')').unwrap().1.split_whitespace().collect();
-        fields[11].parse::<u64>().unwrap() + fields[12].parse::<u64>().unwrap()
-    }
-}
-
-impl Drop for Program {
-    fn drop(&mut self) {
-        let _ = self.0.kill();
-        let _ = self.0.wait();
-    }
-}
+use guest::{configuration, is_real, Folder};
+use nix::sys::signal::Signal;
+use program::{connect, Program};
 
 fn run(words: &[&str]) -> (i32, String, String) {
     let Output { status, stdout, stderr } = Command::new(env!("CARGO_BIN_EXE_nvmed-host"))
@@ -68,15 +22,6 @@ fn run(words: &[&str]) -> (i32, String, String) {
         .unwrap();
     let text = |bytes| String::from_utf8(bytes).unwrap();
     (status.code().unwrap(), text(stdout), text(stderr))
-}
-
-fn connect(folder: &Folder, name: &str) -> Guest {
-    let begin = Instant::now();
-    while !folder.path(name).exists() {
-        assert!(begin.elapsed() < Duration::from_secs(10));
-        std::thread::sleep(Duration::from_millis(5));
-    }
-    Guest::connect(&folder.path(name)).unwrap()
 }
 
 #[test]
@@ -242,9 +187,6 @@ fn an_idle_program_costs_little() {
     let spent = program.ticks() - before;
     println!("an idle program: {spent} hundredths of a second in 4 seconds");
     assert!(spent <= 12, "{spent} hundredths of a second in 4 seconds");
-    let status = std::fs::read_to_string(format!("/proc/{}/status", program.0.id())).unwrap();
-    let own = status.lines().find(|line| line.starts_with("RssAnon:")).unwrap();
-    println!("an idle program: {own}");
     guest.set_cc(0).unwrap();
     guest.await_ready(0).unwrap();
     let before = program.ticks();
@@ -253,4 +195,55 @@ fn an_idle_program_costs_little() {
         program.ticks() - before <= 1,
         "a page of a disabled controller is not looked at"
     );
+}
+
+/// What the program may need beside guests' memory and the drive's blocks: the mediator's area counts.
+const OWN: u64 = 16 << 20;
+
+/// Bytes of memory that no other process has, but for the files that are guests' memory.
+fn own_memory(maps: &str) -> u64 {
+    let mut own = 0;
+    let mut counts = true;
+    for line in maps.lines() {
+        let words: Vec<&str> = line.split_whitespace().collect();
+        match words[..] {
+            // the head of a mapping: its places, how it may be used, and its file if it has one
+            [places, mode, _, _, inode, ..] if places.contains('-') => counts = !(mode.ends_with('s') && inode != "0"),
+            ["Private_Clean:" | "Private_Dirty:" | "Swap:", kilobytes, "kB"] if counts => {
+                own += kilobytes.parse::<u64>().unwrap() << 10;
+            }
+            _ => {}
+        }
+    }
+    own
+}
+
+/// The drive is in a file, so that its blocks are no memory of the program's.
+#[test]
+fn its_own_memory_is_small() {
+    const GUESTS: usize = 16;
+    let folder = Folder::new("memory");
+    let image = folder.path("image");
+    let text =
+        configuration(&folder, GUESTS, "").replace("drive ram 16M", &format!("drive ram 64M {}", image.display()));
+    let program = Program::start(&folder, &text, &["--statistics"]);
+    let mut guests: Vec<_> = (0..GUESTS)
+        .map(|guest| connect(&folder, &format!("g{guest}")))
+        .collect();
+    if is_real() {
+        for guest in &mut guests {
+            guest.bring_up().unwrap();
+            for block in 0..60 {
+                guest.put(1, 1, 0x20_0000, [8 * block, 0, 7]).unwrap();
+            }
+            guest.ring(1, false).unwrap();
+            for _ in 0..60 {
+                assert_eq!(guest.await_done(1).unwrap().status, 0);
+            }
+        }
+    }
+    let own = own_memory(&program.about("smaps"));
+    println!("its own memory, with {GUESTS} guests: {} KiB", own >> 10);
+    assert!(own > 1 << 20, "nothing was counted");
+    assert!(own < OWN, "{own} bytes");
 }
