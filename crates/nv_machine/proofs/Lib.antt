@@ -34,3 +34,4 @@ pub mod AlikeSides
 pub mod AlikeGroups
 pub mod AlikeActs
 pub mod AlikeCalls
+pub mod PlaceSides
