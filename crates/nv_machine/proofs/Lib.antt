@@ -35,3 +35,5 @@ pub mod AlikeGroups
 pub mod AlikeActs
 pub mod AlikeCalls
 pub mod PlaceSides
+pub mod PlaceActs
+pub mod PlaceCalls
