@@ -5,9 +5,10 @@ use Rattle.nv_core.specs.Reaping.{answer_of, answer_to, names_command as names_t
 use Rattle.nv_core.specs.Tags.{is_flying as flying_there}
 use Rattle.nv_entry.specs.Completion.{cid_of as completed_cid, phase_of, sqid_of, status_of}
 use Rattle.nv_entry.specs.Status.{StatusField, bit}
-use Rattle.nv_laws_machine.specs.Made.{IsMachines, IsSameSide, fetched_from}
+use Rattle.nv_laws_machine.specs.Made.{IsMachines, fetched_from}
 use Rattle.nv_laws_sound.specs.Side.{Side}
 use Rattle.nv_laws_sound.specs.Unplaced.{unplaced_lane}
+use Rattle.nv_machine.specs.Unplaced.{AreSameButPlaces}
 use Rattle.nv_machine.proofs.ReapCalls.{reap-by, reap-fetched, reaped-in}
 use Rattle.nv_machine.proofs.SideWorlds.{begun, begun-with, side-with, world_with}
 use Rattle.nv_machine.specs.Doing.{Called, Doing, for_one, lane_changed, replied, stray}
@@ -24,7 +25,7 @@ use Rattle.nv_world_model.specs.Step.{completion_read}
 use Rattle.nv_world_model.specs.World.{Ended, Flying, Free, Lane, Tag, Taken, World}
 use Rattle.nv_world_model.specs.declared.event.Event.TheVariants as event
 
-same-side : (s : Side) → IsSameSide s s
+same-side : (s : Side) → AreSameButPlaces s s
 same-side s = record { lanes = refl; tails = refl; controllers = refl }
 
 flying-same : (t : Option Tag) → is_flying t ≡ flying_there t
@@ -59,14 +60,14 @@ module _ (geometry : Geometry) (old new : Side) (before : List ℕ) (lane : ℕ)
     (same : (answer ≡ Some reply.Done → ⊥) → new ≡ old) (tails : new.tails ≡ old.tails) where
   -- what a call is to be
   abbrev Is : Called → Type 0
-  Is c = (c.reply ≡ answer) × (IsSameSide c.now.side new) × (byte_in before ≡ effects_on c.now.effects (byte_in before))
+  Is c = (c.reply ≡ answer) × (AreSameButPlaces c.now.side new) × (byte_in before ≡ effects_on c.now.effects (byte_in before))
 
   -- one that changes nothing
   nothing : (r : Option Reply) → r ≡ answer → (r ≡ Some reply.Done → ⊥) → Is (record { now = begun old; reply = r })
   unfolding effects_on
   nothing r is off =
       let stays : new ≡ old = same (λ done. off (is ∙ done)) in
-      (is, subst (λ (s : Side). IsSameSide old s) (sym stays) (same-side old), refl)
+      (is, subst (λ (s : Side). AreSameButPlaces old s) (sym stays) (same-side old), refl)
 
   module _ (l : Lane) (found : slice_get old.lanes lane ≡ Some l) where
     abbrev host : ℕ → ℕ

@@ -1,7 +1,7 @@
 -- A step of each world that has a side and a memory is the machine's call.
-use Rattle.std.proofs.Common.{◌≡◌, ℕ, List, ◌++◌, length, map, Option, Some, None, refl, sym, ap, ◌∙◌, subst}
+use Rattle.std.proofs.Common.{◌≡◌, ℕ, List, length, map, Option, Some, None, refl, sym, ap, ◌∙◌, subst}
 use Rattle.nv_core.specs.Front.{IsBeside, IsStepBeside}
-use Rattle.nv_laws_machine.specs.Made.{IsMachines, IsSameSide, fetched_from}
+use Rattle.nv_laws_machine.specs.Made.{IsMachines, fetched_from}
 use Rattle.nv_laws_sound.proofs.Lists.{some-same}
 use Rattle.nv_laws_sound.specs.LaidOut.{IsLaidOut}
 use Rattle.nv_laws_sound.specs.Mediators.{IsMediators}
@@ -13,12 +13,11 @@ use Rattle.nv_machine.proofs.SideWorlds.{kept-with, side-with, tails-behind, wor
 use Rattle.nv_machine.specs.Doing.{Called}
 use Rattle.nv_machine.specs.InWorld.{AreOnPages, IsNoReap, after_in, called_in, in_world}
 use Rattle.nv_machine.specs.Machine.{call}
-use Rattle.nv_model.specs.Controller.{Controller}
 use Rattle.nv_model.specs.Memory.{byte_in}
 use Rattle.nv_model.specs.declared.reply.Reply.{Reply}
 use Rattle.nv_world_model.specs.Geometry.{Geometry}
 use Rattle.nv_world_model.specs.Step.{After, step}
-use Rattle.nv_world_model.specs.World.{Lane, World}
+use Rattle.nv_world_model.specs.World.{World}
 use Rattle.nv_world_model.specs.declared.event.Event.{Event}
 
 -- the reply of a call that comes to something in a world, and the world then

@@ -2,9 +2,9 @@
 use Rattle.std.specs.Prelude.{◌≡◌, ℕ, List, [], ◌∷◌, ◌++◌, map, Option}
 use Rattle.std.specs.Bool.{⊤}
 use Rattle.nv_laws_sound.specs.Side.{Side}
-use Rattle.nv_laws_sound.specs.Unplaced.{unplaced_lane}
 use Rattle.nv_machine.specs.Effects.{effects_on}
 use Rattle.nv_machine.specs.Machine.{call, fetch, fetch_then}
+use Rattle.nv_machine.specs.Unplaced.{AreSameButPlaces}
 use Rattle.nv_model.specs.Memory.{byte_in}
 use Rattle.nv_model.specs.declared.reply.Reply.{Reply}
 use Rattle.nv_world_model.specs.Geometry.{Geometry}
@@ -15,16 +15,10 @@ abbrev pub fetched_from : Geometry → Event → Side → (host : ℕ → ℕ) �
 fetched_from geometry e s host =
     (let first = map host (fetch geometry e s) in first ++ map host (fetch_then geometry e s first))
 
--- two sides are the same but for the places of parts, which are the physical controller's
-pub record IsSameSide (s z : Side) : Type 0 where
-  pub lanes : map unplaced_lane s.lanes ≡ map unplaced_lane z.lanes
-  pub tails : s.tails ≡ z.tails
-  pub controllers : s.controllers ≡ z.controllers
-
 -- a call with that reply, which leaves that side and memory, is the machine's: with the bytes that lie in memory at its fetch, and its effects there
 pub record IsMachines (geometry : Geometry) (e : Event) (old : Side) (before : List ℕ) (r : Option Reply) (new : Side) (after : List ℕ) : Type 0 where
   pub reply : (call geometry e (fetched_from geometry e old (byte_in before)) old).reply ≡ r
-  pub side : IsSameSide (call geometry e (fetched_from geometry e old (byte_in before)) old).now.side new
+  pub side : AreSameButPlaces (call geometry e (fetched_from geometry e old (byte_in before)) old).now.side new
   pub memory : byte_in after ≡ effects_on (call geometry e (fetched_from geometry e old (byte_in before)) old).now.effects (byte_in before)
 
 -- ---- calls in a row
