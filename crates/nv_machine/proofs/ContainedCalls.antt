@@ -13,6 +13,7 @@ use Rattle.nv_machine.specs.Machine.{call, fetch}
 use Rattle.nv_machine.proofs.ContainedEffects.{effects-may}
 use Rattle.nv_machine.proofs.ContainedFetch.{AreSound, first-may, then-may}
 use Rattle.nv_machine.proofs.ContainedOthers.{others-left}
+use Rattle.nv_machine.proofs.ContainedRings.{rings-pass}
 use Rattle.nv_machine.proofs.FetchedHosts.{nothing}
 use Rattle.nv_machine.proofs.Reached.{IsReached, reached-kept}
 use Rattle.nv_mem.specs.GuestMap.{mapped}
@@ -67,6 +68,7 @@ module _ (host_bytes lanes : ℕ) (geometry : Geometry) (laid : IsLaidOut host_b
         then = then-may geometry sound s e fetched (take (length (fetch geometry e s)) fetched);
         effects = effects-may host_bytes lanes geometry laid s reached.kept reached.on_pages e fetched;
         others = others-left geometry s reached.kept e fetched;
+        rings = rings-pass host_bytes lanes geometry laid s reached.kept e fetched;
       }
 
 -- ---- from the start

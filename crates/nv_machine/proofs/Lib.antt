@@ -23,4 +23,6 @@ pub mod ContainedEffects
 pub mod PagesKept
 pub mod FetchedHosts
 pub mod Reached
+pub mod SubmitRings
+pub mod ContainedRings
 pub mod ContainedCalls
