@@ -1,7 +1,6 @@
 -- The tail of a submission ring passes entries of the owner's alone, and only in a Submit.
-use Rattle.std.proofs.Common.{◌≡◌, ℕ, suc, ◌%◌, ◌<◌, ◌≤◌, Bool, true, false, cond, ◌&&◌, ◌==◌, List, [], ◌∷◌, ◌++◌, length, nat_le, not, slice_get, slice_index, take, All}
-use Rattle.std.proofs.Common.{Option, Some, None, arith, eqb-true, refl, set, sym, ap, ◌∙◌, subst}
-use Rattle.std.specs.Bool.{⊤}
+use Rattle.std.proofs.Common.{◌≡◌, ℕ, ◌≤◌, Bool, true, false, cond, ◌&&◌, ◌==◌, List, [], ◌∷◌, length, nat_le, not, slice_get, slice_index, take, All}
+use Rattle.std.proofs.Common.{Option, Some, None, eqb-true, refl, sym, ap, ◌∙◌, subst}
 use Rattle.std.proofs.lemmas.List.Elements.{All-weaker}
 use Rattle.nv_entry.specs.Completion.{cid_of as completed_cid, status_of}
 use Rattle.nv_entry.specs.Status.{StatusField}
@@ -35,7 +34,7 @@ use Rattle.nv_mem.specs.GuestMap.{all_mapped}
 use Rattle.nv_model.specs.Admin.{AdminEffect, admin_command, answered, is_queue_full}
 use Rattle.nv_model.specs.Controller.{Controller, Deletion, Posted, completion_queue, doorbell, front, is_enabled, is_ready, post, ran_out, reg_read, reg_write, took}
 use Rattle.nv_model.specs.Controller.{with_submission}
-use Rattle.nv_model.specs.Limits.{page, part_size}
+use Rattle.nv_model.specs.Limits.{part_size}
 use Rattle.nv_model.specs.Queue.{next_slot}
 use Rattle.nv_model.specs.Transcript.{Outcome, ReadDone, Settled, Wanted}
 use Rattle.nv_model.specs.declared.act.Act.{Act}
@@ -43,7 +42,7 @@ use Rattle.nv_model.specs.declared.act.Act.TheVariants as act
 use Rattle.nv_model.specs.declared.reply.Reply.TheVariants as reply
 use Rattle.nv_world_model.specs.Area.{ring_size}
 use Rattle.nv_world_model.specs.Contained.{guest_of_one}
-use Rattle.nv_world_model.specs.Geometry.{Geometry, Guest, regions_of, shape_of}
+use Rattle.nv_world_model.specs.Geometry.{Geometry, regions_of, shape_of}
 use Rattle.nv_world_model.specs.Plan.{Answer, Bounced, Direct, NoData, Plan, plan_over}
 use Rattle.nv_world_model.specs.Seat.{Owner}
 use Rattle.nv_world_model.specs.Share.{Share, shares_of}

@@ -1,5 +1,5 @@
 -- Each slot that the tail of a submission ring passes in a Submit has the entry of one of the command's tags.
-use Rattle.std.proofs.Common.{◌≡◌, ℕ, suc, ◌%◌, ◌<◌, ◌≤◌, Bool, true, false, cond, ◌==◌, List, [], ◌∷◌, ◌++◌, length, set, slice_get, All}
+use Rattle.std.proofs.Common.{◌≡◌, ℕ, ◌%◌, ◌<◌, ◌≤◌, Bool, true, false, cond, ◌==◌, List, [], ◌∷◌, ◌++◌, length, slice_get, All}
 use Rattle.std.proofs.Common.{Option, Some, None, arith, eqb-true, refl, sym, ap, ◌∙◌, subst}
 use Rattle.std.specs.List.{Contains}
 use Rattle.std.proofs.lemmas.Bool.{eqb-false, ne_eqb}
@@ -25,7 +25,7 @@ use Rattle.nv_model.specs.Limits.{page}
 use Rattle.nv_model.specs.Queue.{next_slot}
 use Rattle.nv_model.specs.Transcript.{ReadDone}
 use Rattle.nv_world_model.specs.Area.{bounce_page, list_bytes, list_page, prps_of, ring_size, submission_slot}
-use Rattle.nv_world_model.specs.Geometry.{Geometry, Guest}
+use Rattle.nv_world_model.specs.Geometry.{Geometry}
 use Rattle.nv_world_model.specs.Seat.{Owner}
 use Rattle.nv_world_model.specs.Share.{Share}
 use Rattle.nv_world_model.specs.ShareArea.{is_no_command, share_entry}
