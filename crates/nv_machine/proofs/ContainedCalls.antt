@@ -12,6 +12,7 @@ use Rattle.nv_machine.specs.InWorld.{AreOnPages}
 use Rattle.nv_machine.specs.Machine.{call, fetch}
 use Rattle.nv_machine.proofs.ContainedEffects.{effects-may}
 use Rattle.nv_machine.proofs.ContainedFetch.{AreSound, first-may, then-may}
+use Rattle.nv_machine.proofs.ContainedFlying.{flying-left}
 use Rattle.nv_machine.proofs.ContainedOthers.{others-left}
 use Rattle.nv_machine.proofs.ContainedRings.{rings-pass}
 use Rattle.nv_machine.proofs.FetchedHosts.{nothing}
@@ -69,6 +70,7 @@ module _ (host_bytes lanes : ℕ) (geometry : Geometry) (laid : IsLaidOut host_b
         effects = effects-may host_bytes lanes geometry laid s reached.kept reached.on_pages e fetched;
         others = others-left geometry s reached.kept e fetched;
         rings = rings-pass host_bytes lanes geometry laid s reached.kept e fetched;
+        flying = flying-left geometry s reached.kept e fetched;
       }
 
 -- ---- from the start

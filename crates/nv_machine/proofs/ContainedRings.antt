@@ -27,6 +27,7 @@ use Rattle.nv_machine.proofs.CallWalks.{either, ended-walk, one-walk, owner-walk
 use Rattle.nv_machine.proofs.Cases.{tag-lane}
 use Rattle.nv_machine.proofs.ContainedEffects.{group-few}
 use Rattle.nv_machine.proofs.ContainedFetch.{AreSound}
+use Rattle.nv_machine.proofs.ControllerCalls.{acted-alone, administered-alone}
 use Rattle.nv_machine.proofs.FetchedHosts.{nothing}
 use Rattle.nv_machine.proofs.SideWorlds.{begun, world_with}
 use Rattle.nv_machine.proofs.SubmitRings.{IsTakenTag, between-none, entries-on}
@@ -74,48 +75,6 @@ ended-tails (Some (Ended command before share)) st lane tag m = refl
 module _ (o : Owner) (s : Side) where
   abbrev Same : Doing → Type 0
   Same n = n.side.tails ≡ s.tails
-
-  controlled-tails : (c : Option Controller) → Same (controlled c o (begun s)).now
-  controlled-tails None = refl
-  controlled-tails (Some c) = refl
-
-  register-tails : (value : Option ℕ) → Same (register_replied value (begun s)).now
-  register-tails None = refl
-  register-tails (Some value) = refl
-
-  acted-tails : (a : Act) (fetched : List ℕ) → Same (acted_in a fetched o (begun s)).now
-  acted-tails (act.Store addr bytes) fetched = either Same (begun s) refl (all_mapped (regions_of o.given) addr (length bytes)) _ _ (λ fits. refl) (λ no. refl)
-  acted-tails (act.Load addr len) fetched = either Same (begun s) refl (all_mapped (regions_of o.given) addr len) _ _ (λ fits. refl) (λ no. refl)
-  acted-tails (act.RegRead offset) fetched = register-tails (reg_read o.controller offset)
-  acted-tails (act.RegWrite offset value) fetched = controlled-tails (reg_write (shape_of o.given).mapped o.controller offset value)
-  acted-tails (act.Doorbell offset value) fetched = controlled-tails (doorbell o.controller offset value)
-
-  completed-tails : (p : Option Posted) (es : List Effect) → Same (completed_with p es o (begun s)).now
-  completed-tails None es = refl
-  completed-tails (Some p) es = refl
-
-  answered-tails : (answer : Option (ℕ × StatusField)) (cid : ℕ) (c : Controller) (es : List Effect) → Same (answered_with answer cid c es o (begun s)).now
-  answered-tails None cid c es = refl
-  answered-tails (Some answer) cid c es = completed-tails (post c 0 answer.0 cid answer.1) es
-
-  carried-tails : (done : AdminEffect) (cid : ℕ) (es : List Effect) → Same (carried_by done cid es o (begun s)).now
-  carried-tails done cid es = answered-tails done.answer cid done.controller es
-
-  front-tails : (found : Option ℕ) (entry : List ℕ) → Same (front_done found entry o (begun s)).now
-  front-tails None entry = refl
-  front-tails (Some addr) entry =
-      either Same (begun s) refl (is_queue_full (completion_queue o.controller 0)) _ _ (λ full. refl) (λ room.
-      carried-tails (admin_command (shape_of o.given).mapped (shape_of o.given).blocks entry (took o.controller 0) no_memory) (cid_of entry) (admin_stores entry o.given))
-
-  ready-tails : (waiting : Option Deletion) (entry : List ℕ) → Same (ready_done waiting entry o (begun s)).now
-  ready-tails None entry = front-tails (front o.controller 0) entry
-  ready-tails (Some d) entry =
-      either Same (begun s) refl (not (slice_index o.controller.taken d.queue == 0)) _ _ (λ waits. refl) (λ gone.
-      either Same (begun s) refl (is_queue_full (completion_queue o.controller 0)) _ _ (λ full. refl) (λ room.
-      carried-tails (answered 0 (record (with_submission o.controller d.queue None) { deletion = None }) no_memory) d.cid []))
-
-  administered-tails : (entry : List ℕ) → Same (administered_in entry o (begun s)).now
-  administered-tails entry = either Same (begun s) refl (is_ready o.controller) _ _ (λ ready. ready-tails o.controller.deletion entry) (λ no. refl)
 
   tags-taken_tails : (found : Option (List ℕ)) (queue lane : ℕ) (entry : List ℕ) → Same (take_tags found queue lane entry o (begun s)).now
   tags-taken_tails None queue lane entry = refl
@@ -165,7 +124,7 @@ module _ (mediator lane : ℕ) (command : Command) (o : Owner) where
       handed-elsewhere tags shares (carried_out mediator lane tag command share o m) other apart ∙ carried-elsewhere tag other share m apart
 
 -- all tags of a command that is taken wait for its plan
-group-taken : (geometry : Geometry) (s : Side) (lane tag : ℕ) (l : Lane) (command : Command) (reads : List ReadDone) → slice_get s.lanes lane ≡ Some l
+pub group-taken : (geometry : Geometry) (s : Side) (lane tag : ℕ) (l : Lane) (command : Command) (reads : List ReadDone) → slice_get s.lanes lane ≡ Some l
     → AreGroups geometry l.tags → tag_at s lane tag ≡ Some (Taken command reads) → command.leader ≡ tag
     → All (IsTakenTag command lane s) (group_at s lane tag)
 unfolding group
@@ -263,10 +222,10 @@ module _ (host_bytes lanes : ℕ) (geometry : Geometry) (laid : IsLaidOut host_b
   pub rings-pass : (e : Event) (fetched : List ℕ) → Fine (guest_for e fetched s) (call geometry e fetched s).now
   unfolding called
   rings-pass (event.Guest guest a) fetched =
-      still (Some guest) _ (one-walk Stays (begun s) refl (owner_in geometry s guest) (λ o. acted_in a fetched o (begun s)) (λ o whose. acted-tails o s a fetched))
+      still (Some guest) _ (one-walk Stays (begun s) refl (owner_in geometry s guest) (λ o. acted_in a fetched o (begun s)) (λ o whose. (acted-alone o s a fetched).1))
   rings-pass (event.Admin guest) fetched =
       still (Some guest) _
-      (one-walk Stays (begun s) refl (owner_in geometry s guest) (λ o. administered_in fetched o (begun s)) (λ o whose. administered-tails o s fetched))
+      (one-walk Stays (begun s) refl (owner_in geometry s guest) (λ o. administered_in fetched o (begun s)) (λ o whose. (administered-alone o s fetched).1))
   rings-pass (event.Take guest queue lane) fetched =
       still (Some guest) _
       (one-walk Stays (begun s) refl (owner_in geometry s guest) (λ o. for_one (slice_get s.lanes lane) (begun s) (λ l. take_from queue lane l fetched o (begun s)))

@@ -24,5 +24,7 @@ pub mod PagesKept
 pub mod FetchedHosts
 pub mod Reached
 pub mod SubmitRings
+pub mod ControllerCalls
 pub mod ContainedRings
+pub mod ContainedFlying
 pub mod ContainedCalls

@@ -48,7 +48,7 @@ put-there lanes lane tag old now (Some l) at was =
     ap (λ (x : Option Lane). tag_in x tag) (slice_get-set lanes lane l (tag_changed tag now l) at) ∙ slice_get-set l.tags tag old now was
 
 -- another is as it was
-put-other : (m : Doing) (lane tag other : ℕ) (now : Tag) → (other == tag) ≡ false → tag_at (tag_put lane tag now m).side lane other ≡ tag_at m.side lane other
+pub put-other : (m : Doing) (lane tag other : ℕ) (now : Tag) → (other == tag) ≡ false → tag_at (tag_put lane tag now m).side lane other ≡ tag_at m.side lane other
 put-other m lane tag other now apart = tag_of-other (world_with nothing m.side) lane tag other now apart
 
 -- no slot lies between a position and itself

@@ -1,6 +1,6 @@
 -- What a call may fetch, and what its effects may touch, whatever bytes were fetched: of guests the memory, tags and pages of the one that it is for, and
 -- of the rings the next slots, which get entries of the owner's. Neither a world nor the physical controller is in it. Isolation between guests is the project's own (profile).
-use Rattle.std.specs.Prelude.{◌≡◌, ◌≢◌, ℕ, ◌+◌, ◌<◌, ◌≤◌, All, List, [], ◌∷◌, length, slice_get, take, true, Option, Some, None}
+use Rattle.std.specs.Prelude.{◌≡◌, ◌≢◌, ℕ, ◌+◌, ◌<◌, ◌≤◌, All, Bool, true, false, ◌&&◌, ◌==◌, List, [], ◌∷◌, length, slice_get, take, Option, Some, None}
 use Rattle.std.specs.Bool.{⊤}
 use Rattle.std.specs.List.{Contains}
 use Rattle.nv_entry.specs.Completion.{cid_of as completed_cid}
@@ -8,7 +8,7 @@ use Rattle.nv_laws_sound.specs.Consistent.{IsBetween, IsPlanned}
 use Rattle.nv_laws_sound.specs.Side.{Side}
 use Rattle.nv_machine.specs.Doing.{tag_at}
 use Rattle.nv_machine.specs.Effects.{Copy, Effect, Store}
-use Rattle.nv_machine.specs.Machine.{call, fetch, fetch_then, in_order}
+use Rattle.nv_machine.specs.Machine.{call, fetch, fetch_then, in_order, is_flying}
 use Rattle.nv_model.specs.Queue.{cqe_size, sqe_size}
 use Rattle.nv_model.specs.Transcript.{ReadDone}
 use Rattle.nv_world_model.specs.Area.{completion_slot, list_page, submission_slot}
@@ -107,6 +107,16 @@ pub record LeavesOthers (number : Option ℕ) (s after : Side) : Type 0 where
   pub controllers : (other : ℕ) → number ≢ Some other → slice_get after.controllers other ≡ slice_get s.controllers other
   pub tags : (other lane tag : ℕ) → number ≢ Some other → own_tag other (tag_at after lane tag) ≡ own_tag other (tag_at s lane tag)
 
+-- a completion that was fetched is read, and names that tag
+abbrev pub reads_for : Event → (fetched : List ℕ) → (lane tag : ℕ) → Bool
+reads_for (event.Reap number) fetched lane tag = number == lane && completed_cid (in_order fetched) == tag
+reads_for _ fetched lane tag = false
+
+-- what was handed on stays in flight until its completion is read: nothing of the physical controller's reaches a tag that is another's by then
+abbrev pub LeavesFlying : Event → (fetched : List ℕ) → (s after : Side) → Type 0
+LeavesFlying e fetched s after =
+    (lane tag : ℕ) → is_flying (tag_at s lane tag) ≡ true → reads_for e fetched lane tag ≡ false → tag_at after lane tag ≡ tag_at s lane tag
+
 -- ---- the whole
 
 -- a call is contained
@@ -118,3 +128,4 @@ pub record IsContained (geometry : Geometry) (e : Event) (fetched : List ℕ) (s
   pub rings : (lane tail behind slot : ℕ) → slice_get s.tails lane ≡ Some tail → slice_get (call geometry e fetched s).now.side.tails lane ≡ Some behind
       → IsBetween tail behind slot
       → MayPass geometry s (call geometry e fetched s).now.side (guest_for e fetched s) lane slot (call geometry e fetched s).now.effects
+  pub flying : LeavesFlying e fetched s (call geometry e fetched s).now.side
