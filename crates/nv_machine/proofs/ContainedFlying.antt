@@ -1,6 +1,6 @@
 -- What was handed on stays in flight until its completion is read.
-use Rattle.std.proofs.Common.{◌≡◌, ℕ, Bool, true, false, cond, ◌&&◌, ◌==◌, List, [], ◌∷◌, length, nat_le, slice_get, take, All, Option, Some, None}
-use Rattle.std.proofs.Common.{eq-eqb, eqb-true, refl, set, sym, ap, ◌∙◌, subst}
+use Rattle.std.proofs.Common.{◌≡◌, ℕ, Bool, true, false, cond, ◌&&◌, ◌==◌, List, [], ◌∷◌, nat_le, slice_get, take, All, Option, Some, None}
+use Rattle.std.proofs.Common.{eqb-true, refl, sym, ap, ◌∙◌, subst}
 use Rattle.std.proofs.lemmas.Bool.{eqb-false, ne_eqb}
 use Rattle.std.proofs.lemmas.List.Elements.{All-cons, All-head, All-nil, All-tail, All-take, All-weaker}
 use Rattle.nv_entry.specs.Completion.{cid_of as completed_cid, status_of}
@@ -11,7 +11,7 @@ use Rattle.nv_entry.specs.declared.status_code.StatusCode.TheVariants.{InternalE
 use Rattle.nv_laws_sound.proofs.Numbers.{Passes, numbers-pass, numbers_where}
 use Rattle.nv_laws_sound.proofs.Takes.{claimed-is}
 use Rattle.nv_laws_sound.specs.Side.{IsKept, Side}
-use Rattle.nv_machine.specs.Contained.{LeavesFlying, reads_for}
+use Rattle.nv_machine.specs.Contained.{LeavesFlying}
 use Rattle.nv_machine.specs.Doing.{Doing, controller_put, for_one, for_owner, group_at, lane_changed, owner_in, replied, tag_at, tag_put, tags_put, tail_put, told}
 use Rattle.nv_machine.specs.Effects.{Effect}
 use Rattle.nv_machine.specs.Machine.{acted_in, administered_in, call, called, carried_out, carry_out, ended_at, ended_at_once, handed_on, in_order, is_flying, is_new, list_at}

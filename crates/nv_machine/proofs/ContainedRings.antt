@@ -1,5 +1,5 @@
 -- The tail of a submission ring passes entries of the owner's alone, and only in a Submit.
-use Rattle.std.proofs.Common.{◌≡◌, ℕ, ◌≤◌, Bool, true, false, cond, ◌&&◌, ◌==◌, List, [], ◌∷◌, length, nat_le, not, slice_get, slice_index, take, All}
+use Rattle.std.proofs.Common.{◌≡◌, ℕ, ◌≤◌, Bool, true, false, cond, ◌&&◌, ◌==◌, List, [], ◌∷◌, length, nat_le, slice_get, take, All}
 use Rattle.std.proofs.Common.{Option, Some, None, eqb-true, refl, sym, ap, ◌∙◌, subst}
 use Rattle.std.proofs.lemmas.List.Elements.{All-weaker}
 use Rattle.nv_entry.specs.Completion.{cid_of as completed_cid, status_of}
@@ -20,9 +20,9 @@ use Rattle.nv_laws_sound.specs.Side.{IsKept, Side}
 use Rattle.nv_machine.specs.Contained.{MayPass, guest_for}
 use Rattle.nv_machine.specs.Doing.{Doing, controller_put, for_one, for_owner, group_at, lane_changed, owner_in, replied, tag_at, tag_put, tags_put, told}
 use Rattle.nv_machine.specs.Effects.{Effect}
-use Rattle.nv_machine.specs.Machine.{acted_in, admin_stores, administered_in, answered_with, call, called, carried_by, carried_out, carry_out, completed_with, controlled}
-use Rattle.nv_machine.specs.Machine.{ended_at, ended_at_once, front_done, handed_on, in_order, is_new, list_at, names_command, no_memory, post_all, post_by}
-use Rattle.nv_machine.specs.Machine.{ready_done, reap, register_replied, statuses_of, submit_by, submitted_on, take_from, take_front, take_tags}
+use Rattle.nv_machine.specs.Machine.{acted_in, administered_in, call, called, carried_out, carry_out}
+use Rattle.nv_machine.specs.Machine.{ended_at, ended_at_once, handed_on, in_order, is_new, list_at, names_command, post_all, post_by}
+use Rattle.nv_machine.specs.Machine.{reap, statuses_of, submit_by, submitted_on, take_from, take_front, take_tags}
 use Rattle.nv_machine.proofs.CallWalks.{either, ended-walk, one-walk, owner-walk, owner_in-named, tags_put-keeps, taken-walk}
 use Rattle.nv_machine.proofs.Cases.{tag-lane}
 use Rattle.nv_machine.proofs.ContainedEffects.{group-few}
@@ -32,18 +32,14 @@ use Rattle.nv_machine.proofs.FetchedHosts.{nothing}
 use Rattle.nv_machine.proofs.SideWorlds.{begun, world_with}
 use Rattle.nv_machine.proofs.SubmitRings.{IsTakenTag, between-none, entries-on}
 use Rattle.nv_mem.specs.GuestMap.{all_mapped}
-use Rattle.nv_model.specs.Admin.{AdminEffect, admin_command, answered, is_queue_full}
-use Rattle.nv_model.specs.Controller.{Controller, Deletion, Posted, completion_queue, doorbell, front, is_enabled, is_ready, post, ran_out, reg_read, reg_write, took}
-use Rattle.nv_model.specs.Controller.{with_submission}
+use Rattle.nv_model.specs.Controller.{Posted, front, is_enabled, post, ran_out, took}
 use Rattle.nv_model.specs.Limits.{part_size}
 use Rattle.nv_model.specs.Queue.{next_slot}
 use Rattle.nv_model.specs.Transcript.{Outcome, ReadDone, Settled, Wanted}
-use Rattle.nv_model.specs.declared.act.Act.{Act}
-use Rattle.nv_model.specs.declared.act.Act.TheVariants as act
 use Rattle.nv_model.specs.declared.reply.Reply.TheVariants as reply
 use Rattle.nv_world_model.specs.Area.{ring_size}
 use Rattle.nv_world_model.specs.Contained.{guest_of_one}
-use Rattle.nv_world_model.specs.Geometry.{Geometry, regions_of, shape_of}
+use Rattle.nv_world_model.specs.Geometry.{Geometry, regions_of}
 use Rattle.nv_world_model.specs.Plan.{Answer, Bounced, Direct, NoData, Plan, plan_over}
 use Rattle.nv_world_model.specs.Seat.{Owner}
 use Rattle.nv_world_model.specs.Share.{Share, shares_of}
