@@ -10,7 +10,8 @@
 #     bench/vm.sh drive       the same, and the drive is the NVMe controller of another QEMU, which is started again, too
 #     bench/vm.sh vfio        in a virtual machine with an I/O MMU: the program drives QEMU's controller by VFIO, with a guest that writes, reads back and
 #                             compares beside a hostile one. The image is looked at as above
-#     bench/vm.sh firmware    SeaBIOS boots a boot sector from the shared drive, two guests at once, each its own; EDK2 finds it and reads a file
+#     bench/vm.sh firmware    SeaBIOS boots a boot sector from the shared drive, two guests at once, each its own; EDK2 finds it and reads a file; U-Boot finds
+#                             it, reads a file with the right sum, and writes blocks, which stand in the image where its guest's extent says
 #     bench/vm.sh machines    guests of 3 GiB, of exactly the size at which the machine's memory is split, and of 5 GiB, on q35 and on pc, two processors;
 #                             two drives of two programs in one guest
 #     bench/vm.sh faults      a guest is killed in the middle of its reads and writes ten times, and comes back each time, beside one that goes on; QEMU's
@@ -18,7 +19,8 @@
 #                             waits for its Reads, a shutdown not for those of others; a guest's lists have no end; a message is not ended
 #     bench/vm.sh speed       fio in one guest that has the program's drive and one of QEMU's own controller, by turns of a second, with equal images; and
 #                             the processor time that the program needs for a command
-#     bench/vm.sh hour [N]    two Linux guests at work and a hostile one for an hour, or N minutes: the program's memory and descriptors are constant
+#     bench/vm.sh hour [N]    two Linux guests at work and a hostile one for an hour, or N minutes: the program's memory, descriptors
+#                             and threads are constant
 #
 # A current QEMU and Debian's kernels are fetched and unpacked, once, into VM_CACHE (else ~/.cache/nvmed-vm); they need not be of this system's own release.
 # Debian's busybox-static, cpio, kmod, xz-utils, nvme-cli, fio, e2fsprogs and xfsprogs, and for firmware ovmf, mtools and dosfstools are installed where they are

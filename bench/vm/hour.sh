@@ -16,7 +16,8 @@ figure() {
     sed -n "s/^$1:[[:space:]]*\([0-9]*\).*/\1/p" "/proc/$host/status"
 }
 
-# Prints a line a minute: memory of its own, pages of guests and of the drive's image that it has touched, both in KiB, descriptors, seconds of processor time.
+# Prints a line a minute: memory of its own, pages of guests and of the drive's image that it has touched, both in KiB, descriptors, seconds of processor time,
+# threads.
 sample() {
     local minute
     for ((minute = 1; minute <= minutes; minute++)); do
@@ -24,7 +25,8 @@ sample() {
         kill -0 "$host" 2> /dev/null || return 1
         echo "minute $minute own $(figure RssAnon) shared $(($(figure RssFile) + $(figure RssShmem)))" \
             "descriptors $(find "/proc/$host/fd" -mindepth 1 | wc -l)" \
-            "processor $(awk -v tick="$(getconf CLK_TCK)" '{ print int(($14 + $15) / tick) }' "/proc/$host/stat")" | tee -a "$room/samples"
+            "processor $(awk -v tick="$(getconf CLK_TCK)" '{ print int(($14 + $15) / tick) }' "/proc/$host/stat")" \
+            "threads $(figure Threads)" | tee -a "$room/samples"
     done
 }
 
@@ -54,6 +56,7 @@ run() {
     # under valgrind most of it is valgrind's
     [[ ${#wrapper[@]} != 0 ]] || check "its memory is constant from minute $steady on" is_constant 4 "$growth"
     check "so are its descriptors" is_constant 8 0
+    check "so are its threads" is_constant 12 0
     check "the blocks that are no guest's" gaps_are_painted
     echo "rounds of guests 0 and 1: $(grep -c '^round ' "$room/serial.0"), $(grep -c '^round ' "$room/serial.1")"
 }

@@ -2,7 +2,7 @@
 use Rattle.std.proofs.Common.{◌≡◌, ℕ, zero, suc, Bool, false, ◌&&◌, List, [], ◌∷◌, map, replicate, set, slice_get, Option, Some, None, lit<, refl, sym, ap, ◌∙◌, subst, length}
 use Rattle.std.proofs.lemmas.List.{length-replicate}
 use Rattle.nv_core.proofs.KeptStates.{IsKeptOf}
-use Rattle.nv_laws_sound.proofs.Tails.{tail-of}
+use Rattle.nv_laws_sound.proofs.Tails.{rung-one, rung-same, tail-of}
 use Rattle.nv_core.specs.Front.{ComesTo, HasTailMoved, IsLive, IsSideOf, IsStepInEach, with_side}
 use Rattle.nv_laws_sound.specs.Side.{Side, rung_with, tails_of, AreKept, IsKept}
 use Rattle.nv_core.specs.Kept.{IsLent}

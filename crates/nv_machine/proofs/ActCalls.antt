@@ -3,10 +3,11 @@ use Rattle.std.proofs.Common.{◌≡◌, ℕ, Bool, true, false, cond, List, len
 use Rattle.std.specs.List.{AllPairs}
 use Rattle.nv_laws_sound.proofs.Lists.{set-same}
 use Rattle.nv_laws_sound.specs.LaidOut.{IsLaidOut}
-use Rattle.nv_machine.specs.Doing.{Called, Doing, controller_put, owner_in, replied, told}
+use Rattle.nv_entry.specs.Layout.{number_bytes}
+use Rattle.nv_machine.specs.Doing.{Called, Doing, controller_put, for_one, owner_in, replied, told}
 use Rattle.nv_machine.specs.Effects.{Effect, effects_on, stores}
 use Rattle.nv_machine.specs.InWorld.{called_in, in_world}
-use Rattle.nv_machine.specs.Machine.{acted_in, called, controlled, register_replied}
+use Rattle.nv_machine.specs.Machine.{acted_in, called, controlled}
 use Rattle.nv_machine.proofs.Cases.{both-one}
 use Rattle.nv_machine.proofs.Effects.{stores-stored}
 use Rattle.nv_machine.proofs.InWorlds.{Is, in-told}
@@ -55,7 +56,7 @@ module _ (geometry : Geometry) (w : World) (m : Doing) (o : Owner) (apart : AllP
       ap (λ (h : ℕ → ℕ). let a : step.After = record { world = with_controller o.number c (with_host h v); reply = reply.Done } in Some a)
       (sym (put_image-own (regions_of o.given) v.host apart))
 
-  register-read : (value : Option ℕ) → Is w (register_replied value m) (step.acted_by (private.register_replied value (seat geometry o v)) o v)
+  register-read : (value : Option ℕ) → Is w (for_one value m (λ value. replied (reply.Bytes (number_bytes 4 value)) m)) (step.acted_by (private.register_replied value (seat geometry o v)) o v)
   register-read None = refl
   register-read (Some value) = refl
 

@@ -4,10 +4,11 @@ use Rattle.nv_entry.specs.Status.{StatusField}
 use Rattle.nv_entry.specs.Submission.{cid_of}
 use Rattle.nv_laws_sound.specs.LaidOut.{IsLaidOut}
 use Rattle.nv_laws_sound.specs.Side.{IsKept}
+use Rattle.nv_machine.proofs.AdminWords.{carried_by, no_memory}
 use Rattle.nv_machine.specs.Doing.{Called, Doing, owner_in}
 use Rattle.nv_machine.specs.Effects.{Effect, completion_stores, effects_on}
 use Rattle.nv_machine.specs.InWorld.{AreOnPages, called_in, in_world}
-use Rattle.nv_machine.specs.Machine.{admin_stores, administered_in, answered_with, called, carried_by, completed_with, deletion_done, front_done, no_memory, ready_done}
+use Rattle.nv_machine.specs.Machine.{admin_stores, administered_in, answered_with, called, completed_with, deletion_done, front_done, ready_done}
 use Rattle.nv_machine.proofs.ActCalls.{in-put_back}
 use Rattle.nv_machine.proofs.AdminDone.{IsDone, admin_command-done}
 use Rattle.nv_machine.proofs.Cases.{both-one}

@@ -13,8 +13,9 @@ use Rattle.nv_entry.specs.declared.opcode.AdminOpcode.TheVariants.{DeleteIoCompl
 use Rattle.nv_entry.specs.declared.opcode.AdminOpcode.TheVariants.{Abort, SetFeatures, GetFeatures, AsynchronousEventRequest}
 use Rattle.nv_entry.specs.declared.status_code.StatusCode.{StatusCode}
 use Rattle.nv_entry.specs.declared.status_code.StatusCode.TheVariants as code
+use Rattle.nv_machine.proofs.AdminWords.{no_memory}
 use Rattle.nv_machine.specs.Effects.{Effect, effects_on}
-use Rattle.nv_machine.specs.Machine.{admin_stores, no_memory, opcode_stores, shown_stores, structure_stores}
+use Rattle.nv_machine.specs.Machine.{admin_stores, opcode_stores, shown_stores, structure_stores}
 use Rattle.nv_machine.proofs.Effects.{stores-scatter}
 use Rattle.nv_machine.proofs.Posted.{AreReady}
 use Rattle.nv_mem.specs.GuestMap.{IsApart, everywhere, mapped}

@@ -16,13 +16,16 @@ use Rattle.nv_laws_sound.proofs.Planned.{Answers, IsAnswerOr, Plans, plan_over-i
 use Rattle.nv_laws_sound.specs.Groups.{command_of, part_of}
 use Rattle.nv_laws_sound.specs.LaidOut.{IsLaidOut}
 use Rattle.nv_laws_sound.specs.Side.{IsKept, Side}
+use Rattle.nv_machine.proofs.AdminWords.{carried_by, no_memory}
 use Rattle.nv_machine.specs.Contained.{IsOwn, MayDo, guest_for}
-use Rattle.nv_machine.specs.Doing.{Doing, controller_put, for_one, group_at, lane_changed, owner_in, tag_at, tag_put, tags_put, told}
+use Rattle.nv_entry.specs.Layout.{number_bytes}
+use Rattle.nv_model.specs.declared.reply.Reply.TheVariants as reply
+use Rattle.nv_machine.specs.Doing.{Doing, controller_put, for_one, group_at, lane_changed, owner_in, replied, tag_at, tag_put, tags_put, told}
 use Rattle.nv_machine.specs.Effects.{Effect, completion_stores, stores}
 use Rattle.nv_machine.specs.InWorld.{AreOnPages}
-use Rattle.nv_machine.specs.Machine.{acted_in, admin_stores, administered_in, answered_with, call, called, carried_by, carry_out, completed_with, controlled}
-use Rattle.nv_machine.specs.Machine.{delivery, ended_at, ended_at_once, front_done, in_order, is_new, list_at, names_command, no_memory, opcode_stores}
-use Rattle.nv_machine.specs.Machine.{post_all, post_by, ready_done, reap, register_replied, shown_stores, statuses_of, structure_stores, submit_by, take_from, take_front, take_tags}
+use Rattle.nv_machine.specs.Machine.{acted_in, admin_stores, administered_in, answered_with, call, called, carry_out, completed_with, controlled}
+use Rattle.nv_machine.specs.Machine.{delivery, ended_at, ended_at_once, front_done, in_order, is_new, list_at, names_command, opcode_stores}
+use Rattle.nv_machine.specs.Machine.{post_all, post_by, ready_done, reap, shown_stores, statuses_of, structure_stores, submit_by, take_from, take_front, take_tags}
 use Rattle.nv_machine.proofs.AdminDone.{admin_command-done}
 use Rattle.nv_machine.proofs.CallWalks.{either, ended-walk, one-walk, owner-walk, owner_in-named, tags_put-keeps, taken-walk}
 use Rattle.nv_machine.proofs.Cases.{tag-lane}
@@ -121,7 +124,7 @@ module _ (geometry : Geometry) (sound : AreSound geometry) (s : Side) where
     controlled-may None = begun-may (Some number)
     controlled-may (Some c) = quiet-may (Some number) (controller_put o.number c (begun s)) refl
 
-    register-may : (value : Option ℕ) → May (Some number) (register_replied value (begun s)).now
+    register-may : (value : Option ℕ) → May (Some number) (for_one value (begun s) (λ value. replied (reply.Bytes (number_bytes 4 value)) (begun s))).now
     register-may None = begun-may (Some number)
     register-may (Some value) = begun-may (Some number)
 

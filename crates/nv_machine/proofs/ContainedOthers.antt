@@ -12,12 +12,15 @@ use Rattle.nv_laws_sound.proofs.Numbers.{Passes, numbers-pass, numbers_where}
 use Rattle.nv_laws_sound.proofs.Takes.{claimed-is}
 use Rattle.nv_laws_sound.specs.Groups.{command_of, part_of}
 use Rattle.nv_laws_sound.specs.Side.{IsKept, Side}
+use Rattle.nv_machine.proofs.AdminWords.{carried_by, no_memory}
 use Rattle.nv_machine.specs.Contained.{LeavesOthers, guest_for}
-use Rattle.nv_machine.specs.Doing.{Doing, controller_put, for_one, group_at, lane_changed, owner_in, tag_at, tag_put, tail_put, tags_put, told}
+use Rattle.nv_entry.specs.Layout.{number_bytes}
+use Rattle.nv_model.specs.declared.reply.Reply.TheVariants as reply
+use Rattle.nv_machine.specs.Doing.{Doing, controller_put, for_one, group_at, lane_changed, owner_in, replied, tag_at, tag_put, tail_put, tags_put, told}
 use Rattle.nv_machine.specs.Effects.{Effect}
-use Rattle.nv_machine.specs.Machine.{acted_in, admin_stores, administered_in, answered_with, call, called, carried_by, carried_out, carry_out, completed_with, controlled}
-use Rattle.nv_machine.specs.Machine.{ended_at, ended_at_once, front_done, handed_on, in_order, is_new, list_at, names_command, no_memory, post_all, post_by}
-use Rattle.nv_machine.specs.Machine.{share_effects, ready_done, reap, register_replied, statuses_of, submit_by, submitted_on, take_from, take_front, take_tags}
+use Rattle.nv_machine.specs.Machine.{acted_in, admin_stores, administered_in, answered_with, call, called, carried_out, carry_out, completed_with, controlled}
+use Rattle.nv_machine.specs.Machine.{ended_at, ended_at_once, front_done, handed_on, in_order, is_new, list_at, names_command, post_all, post_by}
+use Rattle.nv_machine.specs.Machine.{share_effects, ready_done, reap, statuses_of, submit_by, submitted_on, take_from, take_front, take_tags}
 use Rattle.nv_machine.proofs.CallWalks.{either, ended-walk, one-walk, owner-walk, owner_in-named, taken-walk}
 use Rattle.nv_machine.proofs.Cases.{tag-lane}
 use Rattle.nv_machine.proofs.OwnTags.{AreOthersNone, IsOthersNone, Leaves, controller-leaves, group-guests, group-others, guests-none, leaves-all}
@@ -60,7 +63,7 @@ module _ (o : Owner) (m : Doing) where
   controlled-leaves None = same
   controlled-leaves (Some c) = controller-leaves o.number c m
 
-  register-leaves : (value : Option ℕ) → Own (register_replied value m).now
+  register-leaves : (value : Option ℕ) → Own (for_one value m (λ value. replied (reply.Bytes (number_bytes 4 value)) m)).now
   register-leaves None = same
   register-leaves (Some value) = same
 

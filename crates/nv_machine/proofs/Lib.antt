@@ -8,10 +8,16 @@ pub mod Posted
 pub mod SubmitCalls
 pub mod ReapCalls
 pub mod PostCalls
-pub mod Writes
 pub mod ActCalls
+pub mod AdminWords
 pub mod AdminDone
 pub mod AdminCalls
+pub mod EventCalls
+pub mod Writes
+pub mod OwnEntries
+pub mod Elims
+pub mod OwnStores
+pub mod Orders
 pub mod CallWalks
 pub mod ContainedFetch
 pub mod SideWorlds
@@ -28,3 +34,7 @@ pub mod ControllerCalls
 pub mod ContainedRings
 pub mod ContainedFlying
 pub mod ContainedCalls
+pub mod AlikeSides
+pub mod AlikeGroups
+pub mod AlikeActs
+pub mod AlikeCalls

@@ -179,6 +179,7 @@ module _ (host_bytes : ℕ) (geometry : Geometry) (w : World) (m : Doing) (laid 
       fine o given lane n below in_tags l found (Some (Flying command share standing)) there = tt
       fine o given lane n below in_tags l found (Some (Ended command st None)) there = tt
       fine o given lane n below in_tags l found (Some (Ended command st (Some share))) there =
-          let is = (kept.lanes lane l found).tags n (Ended command st (Some share)) (ap (λ (x : Option Lane). tag_in x n) (sym found) ∙ there) in
-          (bounce-apart host_bytes (length m.side.lanes) geometry laid o.number o.given given lane n below in_tags,
-          plan-few is.guest command.entry share is.planned)
+          let is = (kept.lanes lane l found).tags n (Ended command st (Some share)) (ap (λ (x : Option Lane). tag_in x n) (sym found) ∙ there) in (
+            bounce-apart host_bytes (length m.side.lanes) geometry laid o.number o.given given lane n below in_tags,
+            plan-few is.guest command.entry share is.planned,
+          )

@@ -217,7 +217,7 @@ module _ (host_bytes lanes : ℕ) (geometry : Geometry) (laid : IsLaidOut host_b
           let host : ℕ → ℕ = showing_to (owner_in geometry s number) (front_addr (owner_in geometry s number) queue) fetched in
           behind host (event.Take number queue lane) fetched tt
           (take-is geometry (world_with host s) (begun s) number queue lane fetched
-          (λ o addr whose io at. entry-there number queue addr o fetched whose at (take-fetched number queue lane o l fetched whose found io size)))
+          (λ o k addr whose there io at. entry-there number queue addr o fetched whose at (take-fetched number queue lane o l fetched whose found io size)))
 
   -- ---- a part of a list
 

@@ -12,7 +12,7 @@ use Rattle.nv_laws_sound.proofs.phases.Rounds.{slot-tells}
 use Rattle.nv_laws_sound.specs.Consistent.{IsLane}
 use Rattle.nv_machine.specs.Doing.{Doing, for_one, lane_changed, replied, stray}
 use Rattle.nv_machine.specs.InWorld.{IsLive, called_in, fetched_in, in_world, side_of}
-use Rattle.nv_machine.specs.Machine.{called, ended_at, fetch, fetch_then, from_one, in_order, is_flying, is_new, names_command, phase_dword, reap, reaped_by}
+use Rattle.nv_machine.specs.Machine.{called, ended_at, fetch, fetch_then, from_one, in_order, is_flying, is_new, names_command, reap, reaped_by}
 use Rattle.nv_machine.proofs.InWorlds.{Is, in-first}
 use Rattle.nv_model.proofs.MemoryLemmas.{bytes_from-append}
 use Rattle.nv_model.proofs.Shown.{length-bytes_from}
@@ -167,7 +167,7 @@ module _ (geometry : Geometry) (w : World) (live : IsLive geometry w) where
     where
       fetched : Option Lane → List ℕ
       fetched o =
-          (let first = map w.host (from_one o (λ l. phase_dword geometry.mediator lane l)) in
+          (let first = map w.host (from_one o (λ l. range_with_len (completion_slot geometry.mediator lane l.head + 12) 4)) in
           first ++ map w.host (from_one o (λ l. cond (is_new l first) (range_with_len (completion_slot geometry.mediator lane l.head) 12) [])))
 
       first-then : (b : Bool) (slot : ℕ) → map w.host (cond b (range_with_len slot 12) []) ≡ cond b (bytes_from w.host slot 12) []

@@ -60,7 +60,7 @@ module _ (w : World) (m : Doing) (o : Owner) where
       both-cond w m (all_mapped (regions_of o.given) addr len) _ _ _ _ (λ there.
       both-cond w m (nat_le 1 len && nat_le len part_size) _ _ _ _
       (λ fits. ap (λ (bytes : List ℕ). called_in w
-          (replied (reply.Bytes bytes) (tag_put lane tag (Taken command (reads ++ record { addr = addr; bytes = bytes } ∷ [])) m))) (is there fits))
+      (replied (reply.Bytes bytes) (tag_put lane tag (Taken command (reads ++ record { addr = addr; bytes = bytes } ∷ [])) m))) (is there fits))
       (λ no. refl)) (λ no. refl)
 
 -- ---- GiveUp
@@ -75,14 +75,14 @@ at_once-ended w m lane (tag ∷ tags) command st =
 
 module _ (geometry : Geometry) (w : World) (m : Doing) where
   pub take-is : (number queue lane : ℕ) (entry : List ℕ)
-      → ((o : Owner) (addr : ℕ) → owner_in geometry m.side number ≡ Some o → step.is_io_queue queue ≡ true → front o.controller queue ≡ Some addr
-      → entry ≡ step.entry_at addr o (in_world w m))
+      → ((o : Owner) (l : Lane) (addr : ℕ) → owner_in geometry m.side number ≡ Some o → slice_get m.side.lanes lane ≡ Some l
+      → step.is_io_queue queue ≡ true → front o.controller queue ≡ Some addr → entry ≡ step.entry_at addr o (in_world w m))
       → Is w (called geometry (event.Take number queue lane) entry m) (step.step geometry (event.Take number queue lane) (in_world w m))
   unfolding called step.step
   take-is number queue lane entry is =
       both-one w m (owner_in geometry m.side number) _ _ (λ o whose.
       both-one w m (slice_get m.side.lanes lane) _ _ (λ l there.
-      from-taken w m o queue lane l entry (λ addr. is o addr whose)))
+      from-taken w m o queue lane l entry (λ addr. is o l addr whose there)))
 
   pub list-is : (lane tag addr len : ℕ) (fetched : List ℕ)
       → ((o : Owner) (command : Command) (reads : List ReadDone) → tag_at m.side lane tag ≡ Some (Taken command reads) → command.leader ≡ tag

@@ -31,8 +31,7 @@ abbrev pub told : List Effect → Doing → Doing
 told effects m = record m { effects = m.effects ++ effects }
 
 abbrev pub lane_changed : (lane : ℕ) → (Lane → Lane) → Doing → Doing
-lane_changed lane change m =
-    record m { side = record m.side { lanes = changed_at (slice_get m.side.lanes lane) lane change m.side.lanes } }
+lane_changed lane change m = record m { side = record m.side { lanes = changed_at (slice_get m.side.lanes lane) lane change m.side.lanes } }
 
 abbrev pub tag_put : (lane tag : ℕ) → Tag → Doing → Doing
 tag_put lane tag t m = lane_changed lane (tag_changed tag t) m

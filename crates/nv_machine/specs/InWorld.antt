@@ -1,5 +1,6 @@
 -- A call in a world: with the bytes that lie there at its fetch, and with its effects in that world's memory (profile).
 use Rattle.std.specs.Prelude.{◌≡◌, ℕ, List, ◌++◌, map, slice_get, Option, Some, None}
+use Rattle.std.specs.Bool.{⊤}
 use Rattle.nv_laws_sound.specs.Phased.{ArePhased}
 use Rattle.nv_laws_sound.specs.Consistent.{IsConsistent}
 use Rattle.nv_laws_sound.specs.Side.{Side, rung_with, tails_of}
@@ -13,6 +14,7 @@ use Rattle.nv_world_model.specs.Geometry.{Geometry}
 use Rattle.nv_world_model.specs.Step.{After}
 use Rattle.nv_world_model.specs.World.{World}
 use Rattle.nv_world_model.specs.declared.event.Event.{Event}
+use Rattle.nv_world_model.specs.declared.event.Event.TheVariants as event
 
 -- the mediator's side of a world
 abbrev pub side_of : World → Side
@@ -50,3 +52,8 @@ pub record IsLive (geometry : Geometry) (w : World) : Type 0 where
   pub consistent : IsConsistent geometry w
   pub phased : ArePhased geometry w
   pub on_pages : AreOnPages w.controllers
+
+-- an event is no Reap: what a Reap comes to depends on what the physical controller has posted
+abbrev pub IsNoReap : Event → Type 0
+IsNoReap (event.Reap lane) = ⊥
+IsNoReap _ = ⊤

@@ -18,13 +18,13 @@ use Rattle.nv_machine.specs.Effects.{Effect, Store, completion_stores, copies_fr
 use Rattle.nv_mem.specs.GuestMap.{all_mapped}
 use Rattle.nv_mem.specs.Places.{addresses, places_of}
 use Rattle.nv_mem.specs.declared.region.Region.{Region}
-use Rattle.nv_model.specs.Admin.{AdminEffect, Hidden, Shown, Structure, admin_command, answered, identify_reading, is_queue_full, shown}
+use Rattle.nv_model.specs.Admin.{Hidden, Shown, Structure, admin_command, identify_reading, is_queue_full, shown}
 use Rattle.nv_model.specs.Controller.{Controller, Deletion, Posted, completion_queue, doorbell, front, is_enabled, is_ready, post, ran_out, reg_read, reg_write}
 use Rattle.nv_model.specs.Controller.{took, with_submission}
 use Rattle.nv_model.specs.Judge.{Form, Manage, Transfer, Work, form_of, is_read}
 use Rattle.nv_model.specs.Limits.{part_size}
 use Rattle.nv_model.specs.Queue.{next_slot, sqe_size}
-use Rattle.nv_model.specs.Reading.{Faulty, Reading, Spells, TooLong}
+use Rattle.nv_model.specs.Reading.{Reading, Spells}
 use Rattle.nv_model.specs.Transcript.{Outcome, ReadDone, Settled, Wanted}
 use Rattle.nv_model.specs.declared.act.Act.{Act}
 use Rattle.nv_model.specs.declared.act.Act.TheVariants as act
@@ -53,8 +53,7 @@ front_entry o queue = from_one (front o.controller queue) (λ addr. hosts_from (
 
 -- an admin command is fetched where no deletion waits and its completion can be posted
 abbrev pub admin_fetch : Owner → List ℕ
-admin_fetch o =
-    if is_none o.controller.deletion && not (is_queue_full (completion_queue o.controller 0)) then front_entry o 0 else []
+admin_fetch o = if is_none o.controller.deletion && not (is_queue_full (completion_queue o.controller 0)) then front_entry o 0 else []
 
 abbrev pub act_fetch : Act → Owner → List ℕ
 act_fetch (act.Load addr len) o = if all_mapped (regions_of o.given) addr len then hosts_from (regions_of o.given) addr len else []
@@ -62,24 +61,19 @@ act_fetch _ o = []
 
 -- a part of a list, by the tag that its command goes by
 abbrev pub list_fetch : Geometry → Side → (addr len tag : ℕ) → Option Tag → List ℕ
-list_fetch geometry s addr len tag (Some (Taken command reads)) =
-    from_one (owner_in geometry s command.guest) (λ o.
+list_fetch geometry s addr len tag (Some (Taken command reads)) = from_one (owner_in geometry s command.guest) (λ o.
     if command.leader == tag && all_mapped (regions_of o.given) addr len && nat_le 1 len && nat_le len part_size
     then hosts_from (regions_of o.given) addr len else [])
 list_fetch geometry s addr len tag _ = []
 
--- of a physical completion the dword with its phase tag
-abbrev pub phase_dword : (mediator lane : ℕ) → Lane → List ℕ
-phase_dword mediator lane l = range_with_len (completion_slot mediator lane l.head + 12) 4
-
+-- of a physical completion the dword with its phase tag is fetched first
 unfoldable pub fetch : Geometry → Event → Side → List ℕ
 fetch geometry (event.Guest guest a) s = from_one (owner_in geometry s guest) (λ o. act_fetch a o)
 fetch geometry (event.Admin guest) s = from_one (owner_in geometry s guest) (λ o. admin_fetch o)
-fetch geometry (event.Take guest queue lane) s =
-    from_one (owner_in geometry s guest) (λ o.
+fetch geometry (event.Take guest queue lane) s = from_one (owner_in geometry s guest) (λ o.
     from_one (slice_get s.lanes lane) (λ l. if is_io_queue queue then front_entry o queue else []))
 fetch geometry (event.List lane tag addr len) s = list_fetch geometry s addr len tag (tag_at s lane tag)
-fetch geometry (event.Reap lane) s = from_one (slice_get s.lanes lane) (λ l. phase_dword geometry.mediator lane l)
+fetch geometry (event.Reap lane) s = from_one (slice_get s.lanes lane) (λ l. range_with_len (completion_slot geometry.mediator lane l.head + 12) 4)
 fetch geometry _ s = []
 
 -- whether a completion has the phase tag that the lane wants, by its last dword
@@ -88,28 +82,20 @@ is_new l dword = phase_of (replicate 12 0 ++ dword) == bit l.phase
 
 -- what is fetched then, and behind the bytes that were fetched first: of a physical completion the other 12 bytes, where its phase tag is the wanted one
 unfoldable pub fetch_then : Geometry → Event → Side → (first : List ℕ) → List ℕ
-fetch_then geometry (event.Reap lane) s first =
-    from_one (slice_get s.lanes lane) (λ l.
+fetch_then geometry (event.Reap lane) s first = from_one (slice_get s.lanes lane) (λ l.
     if is_new l first then range_with_len (completion_slot geometry.mediator lane l.head) 12 else [])
 fetch_then geometry _ s first = []
 
 -- ---- a guest's acts
 
 abbrev pub controlled : Option Controller → Owner → Doing → Called
-controlled None o m = replied reply.Ignored m
-controlled (Some c) o m = replied reply.Done (controller_put o.number c m)
-
-abbrev pub register_replied : Option ℕ → Doing → Called
-register_replied None m = replied reply.Ignored m
-register_replied (Some value) m = replied (reply.Bytes (number_bytes 4 value)) m
+controlled new o m = for_one new m (λ c. replied reply.Done (controller_put o.number c m))
 
 abbrev pub acted_in : Act → (fetched : List ℕ) → Owner → Doing → Called
-acted_in (act.Store addr bytes) fetched o m =
-    if all_mapped (regions_of o.given) addr (length bytes)
+acted_in (act.Store addr bytes) fetched o m = if all_mapped (regions_of o.given) addr (length bytes)
     then replied reply.Done (told (stores (regions_of o.given) (addresses addr (length bytes)) bytes) m) else replied reply.Unmapped m
-acted_in (act.Load addr len) fetched o m =
-    if all_mapped (regions_of o.given) addr len then replied (reply.Bytes fetched) m else replied reply.Unmapped m
-acted_in (act.RegRead offset) fetched o m = register_replied (reg_read o.controller offset) m
+acted_in (act.Load addr len) fetched o m = if all_mapped (regions_of o.given) addr len then replied (reply.Bytes fetched) m else replied reply.Unmapped m
+acted_in (act.RegRead offset) fetched o m = for_one (reg_read o.controller offset) m (λ value. replied (reply.Bytes (number_bytes 4 value)) m)
 acted_in (act.RegWrite offset value) fetched o m = controlled (reg_write (shape_of o.given).mapped o.controller offset value) o m
 acted_in (act.Doorbell offset value) fetched o m = controlled (doorbell o.controller offset value) o m
 
@@ -118,8 +104,7 @@ acted_in (act.Doorbell offset value) fetched o m = controlled (doorbell o.contro
 -- what Identify stores: its structure, where the command's data pointer says
 abbrev pub structure_stores : List ℕ → Reading → List Region → List Effect
 structure_stores bytes (Spells pieces) regions = stores regions (places_of pieces) bytes
-structure_stores bytes (Faulty why) regions = []
-structure_stores bytes TooLong regions = []
+structure_stores bytes _ regions = []
 
 abbrev pub shown_stores : Shown → (entry : List ℕ) → Guest → List Effect
 shown_stores (Hidden why) entry given = []
@@ -144,24 +129,16 @@ answered_with None cid c effects o m = replied reply.Done (told effects (control
 answered_with (Some answer) cid c effects o m = completed_with (post c 0 answer.0 cid answer.1) effects o m
 
 -- the admin commands are those of the private controller; none of them depends on memory
-abbrev pub carried_by : AdminEffect → (cid : ℕ) → List Effect → Owner → Doing → Called
-carried_by done cid effects o m = answered_with done.answer cid done.controller effects o m
-
-abbrev pub no_memory : ℕ → ℕ
-no_memory addr = 0
-
 abbrev pub front_done : Option ℕ → (entry : List ℕ) → Owner → Doing → Called
 front_done None entry o m = replied reply.Idle m
-front_done (Some addr) entry o m =
-    if is_queue_full (completion_queue o.controller 0) then replied reply.Held m else
-    carried_by (admin_command (shape_of o.given).mapped (shape_of o.given).blocks entry (took o.controller 0) no_memory) (cid_of entry)
-    (admin_stores entry o.given) o m
+front_done (Some addr) entry o m = if is_queue_full (completion_queue o.controller 0) then replied reply.Held m else
+    (let done = admin_command (shape_of o.given).mapped (shape_of o.given).blocks entry (took o.controller 0) (λ at. 0) in
+    answered_with done.answer (cid_of entry) done.controller (admin_stores entry o.given) o m)
 
 abbrev pub deletion_done : Deletion → Owner → Doing → Called
-deletion_done d o m =
-    if not (slice_index o.controller.taken d.queue == 0) then replied reply.Idle m else
+deletion_done d o m = if not (slice_index o.controller.taken d.queue == 0) then replied reply.Idle m else
     if is_queue_full (completion_queue o.controller 0) then replied reply.Held m else
-    carried_by (answered 0 (record (with_submission o.controller d.queue None) { deletion = None }) no_memory) d.cid [] o m
+    answered_with (Some (0, done_with Success)) d.cid (record (with_submission o.controller d.queue None) { deletion = None }) [] o m
 
 abbrev pub ready_done : Option Deletion → (entry : List ℕ) → Owner → Doing → Called
 ready_done (Some d) entry o m = deletion_done d o m
@@ -174,25 +151,20 @@ administered_in entry o m = if is_ready o.controller then ready_done o.controlle
 
 abbrev pub take_tags : Option (List ℕ) → (queue lane : ℕ) → (entry : List ℕ) → Owner → Doing → Called
 take_tags None queue lane entry o m = replied reply.Busy m
-take_tags (Some tags) queue lane entry o m =
-    (let command : Command = record { guest = o.number; queue = queue; entry = entry; leader = lowest tags } in
+take_tags (Some tags) queue lane entry o m = (let command : Command = record { guest = o.number; queue = queue; entry = entry; leader = lowest tags } in
     replied reply.Done (tags_put lane tags (Taken command []) (controller_put o.number (took o.controller queue) m)))
 
 abbrev pub take_front : Option ℕ → (queue number : ℕ) → Lane → (entry : List ℕ) → Owner → Doing → Called
 take_front None queue number lane entry o m = replied reply.Idle m
-take_front (Some addr) queue number lane entry o m =
-    take_tags (claimed (tags_of_entry o.given.namespace entry) lane.tags) queue number entry o m
+take_front (Some addr) queue number lane entry o m = take_tags (claimed (tags_of_entry o.given.namespace entry) lane.tags) queue number entry o m
 
 abbrev pub take_from : (queue number : ℕ) → Lane → (entry : List ℕ) → Owner → Doing → Called
-take_from queue number lane entry o m =
-    if is_io_queue queue then take_front (front o.controller queue) queue number lane entry o m else replied reply.Ignored m
+take_from queue number lane entry o m = if is_io_queue queue then take_front (front o.controller queue) queue number lane entry o m else replied reply.Ignored m
 
 -- ---- List
 
 abbrev pub list_at : (addr len lane tag : ℕ) → (fetched : List ℕ) → Command → List ReadDone → Owner → Doing → Called
-list_at addr len lane tag fetched command reads o m =
-    if all_mapped (regions_of o.given) addr len then
-    (if nat_le 1 len && nat_le len part_size then
+list_at addr len lane tag fetched command reads o m = if all_mapped (regions_of o.given) addr len then (if nat_le 1 len && nat_le len part_size then
     replied (reply.Bytes fetched) (tag_put lane tag (Taken command (reads ++ record { addr = addr; bytes = fetched } ∷ [])) m)
     else replied reply.Ignored m) else replied reply.Unmapped m
 
@@ -200,8 +172,7 @@ list_at addr len lane tag fetched command reads o m =
 
 abbrev pub ended_at_once : (lane : ℕ) → (tags : List ℕ) → Command → StatusField → Doing → Doing
 ended_at_once lane [] command st m = m
-ended_at_once lane (tag ∷ tags) command st m =
-    tags_put lane tags (Ended command (done_with Success) None) (tag_put lane tag (Ended command st None) m)
+ended_at_once lane (tag ∷ tags) command st m = tags_put lane tags (Ended command (done_with Success) None) (tag_put lane tag (Ended command st None) m)
 
 -- what goes to a tag's bounce pages: the source of a Write or Compare, or the ranges of a Dataset Management as the disk has them
 abbrev pub form_effects : Form → Guest → (bounce : ℕ) → Work → List Effect
@@ -221,8 +192,7 @@ share_effects share given entry mediator lane tag slot =
     ++ Store (submission_slot mediator lane slot) (share_entry share given.namespace given entry mediator lane tag) ∷ []
 
 abbrev pub submitted : (mediator lane tag : ℕ) → Command → Share → Owner → (tail : ℕ) → Doing → Doing
-submitted mediator lane tag command share o tail m =
-    tag_put lane tag (Flying command share (Queued tail))
+submitted mediator lane tag command share o tail m = tag_put lane tag (Flying command share (Queued tail))
     (tail_put lane (next_slot ring_size tail) (told (share_effects share o.given command.entry mediator lane tag tail) m))
 
 abbrev pub submitted_on : Option ℕ → (mediator lane tag : ℕ) → Command → Share → Owner → Doing → Doing
@@ -230,8 +200,7 @@ submitted_on None mediator lane tag command share o m = m
 submitted_on (Some tail) mediator lane tag command share o m = submitted mediator lane tag command share o tail m
 
 abbrev pub carried_out : (mediator lane tag : ℕ) → Command → Share → Owner → Doing → Doing
-carried_out mediator lane tag command share o m =
-    if is_no_command share then tag_put lane tag (Ended command (done_with Success) (Some share)) m
+carried_out mediator lane tag command share o m = if is_no_command share then tag_put lane tag (Ended command (done_with Success) (Some share)) m
     else submitted_on (slice_get m.side.tails lane) mediator lane tag command share o m
 
 unfoldable pub handed_on : (mediator lane : ℕ) → (tags : List ℕ) → List Share → Command → Owner → Doing → Doing
@@ -242,8 +211,7 @@ handed_on mediator lane (tag ∷ tags) (share ∷ shares) command o m =
 
 abbrev pub carry_out : Plan → (mediator lane : ℕ) → (tags : List ℕ) → Command → Owner → Doing → Doing
 carry_out (Answer st) mediator lane tags command o m = ended_at_once lane tags command st m
-carry_out plan mediator lane tags command o m =
-    handed_on mediator lane tags (shares_of o.given.namespace command.entry plan) command o m
+carry_out plan mediator lane tags command o m = handed_on mediator lane tags (shares_of o.given.namespace command.entry plan) command o m
 
 abbrev pub submit_by : Outcome Plan → (mediator lane : ℕ) → (tags : List ℕ) → Command → Owner → Doing → Called
 submit_by (Wanted addr len) mediator lane tags command o m = replied reply.Stale m
@@ -268,14 +236,12 @@ abbrev pub names_command : (number : ℕ) → Lane → (completion : List ℕ) �
 names_command number l completion = sqid_of completion == queue_pair number && is_flying (slice_get l.tags (completed_cid completion))
 
 abbrev pub reaped_by : (number : ℕ) → Lane → (completion : List ℕ) → Doing → Called
-reaped_by number l completion m =
-    if names_command number l completion
+reaped_by number l completion m = if names_command number l completion
     then replied reply.Done (ended_at (slice_get l.tags (completed_cid completion)) (status_of completion) number (completed_cid completion)
     (lane_changed number completion_read m)) else stray m
 
 abbrev pub reap : (number : ℕ) → Lane → (fetched : List ℕ) → Doing → Called
-reap number l fetched m =
-    if is_new l (take 4 fetched) then reaped_by number l (in_order fetched) m else replied reply.Idle m
+reap number l fetched m = if is_new l (take 4 fetched) then reaped_by number l (in_order fetched) m else replied reply.Idle m
 
 -- ---- Post
 
@@ -294,9 +260,7 @@ delivery st mediator lane tags given s =
 
 abbrev pub post_by : Option Posted → (delivered : List Effect) → (lane : ℕ) → (tags : List ℕ) → Owner → Doing → Called
 post_by None delivered lane tags o m = replied reply.Held m
-post_by (Some p) delivered lane tags o m =
-    replied reply.Done
-    (tags_put lane tags Free
+post_by (Some p) delivered lane tags o m = replied reply.Done (tags_put lane tags Free
     (controller_put o.number p.controller (told (delivered ++ completion_stores (regions_of o.given) p.addr p.entry) m)))
 
 abbrev pub post_at : Command → StatusField → (delivered : List Effect) → (lane : ℕ) → (tags : List ℕ) → Owner → Doing → Called
@@ -310,8 +274,7 @@ statuses_of lane (tag ∷ tags) s = status_before (ended_status (tag_at s lane t
 
 abbrev pub post_all : Option (List StatusField) → Command → (mediator lane : ℕ) → (tags : List ℕ) → Owner → Doing → Called
 post_all None command mediator lane tags o m = replied reply.Stale m
-post_all (Some sts) command mediator lane tags o m =
-    post_at command (deciding sts) (delivery (deciding sts) mediator lane tags o.given m.side) lane tags o m
+post_all (Some sts) command mediator lane tags o m = post_at command (deciding sts) (delivery (deciding sts) mediator lane tags o.given m.side) lane tags o m
 
 -- ---- the call
 
@@ -319,25 +282,18 @@ post_all (Some sts) command mediator lane tags o m =
 unfoldable pub called : Geometry → Event → (fetched : List ℕ) → Doing → Called
 called geometry (event.Guest guest a) fetched m = for_one (owner_in geometry m.side guest) m (λ o. acted_in a fetched o m)
 called geometry (event.Admin guest) fetched m = for_one (owner_in geometry m.side guest) m (λ o. administered_in fetched o m)
-called geometry (event.Take guest queue lane) fetched m =
-    for_one (owner_in geometry m.side guest) m (λ o.
+called geometry (event.Take guest queue lane) fetched m = for_one (owner_in geometry m.side guest) m (λ o.
     for_one (slice_get m.side.lanes lane) m (λ l. take_from queue lane l fetched o m))
-called geometry (event.List lane tag addr len) fetched m =
-    for_taken tag (tag_at m.side lane tag) m (λ command reads.
+called geometry (event.List lane tag addr len) fetched m = for_taken tag (tag_at m.side lane tag) m (λ command reads.
     for_owner (owner_in geometry m.side command.guest) m (λ o. list_at addr len lane tag fetched command reads o m))
-called geometry (event.Submit lane tag) fetched m =
-    for_taken tag (tag_at m.side lane tag) m (λ command reads.
-    for_owner (owner_in geometry m.side command.guest) m (λ o.
-    for_one (slice_get m.side.tails lane) m (λ tail.
+called geometry (event.Submit lane tag) fetched m = for_taken tag (tag_at m.side lane tag) m (λ command reads.
+    for_owner (owner_in geometry m.side command.guest) m (λ o. for_one (slice_get m.side.tails lane) m (λ tail.
     submit_by (plan_over o.given command.entry reads) geometry.mediator lane (group_at m.side lane tag) command o m)))
-called geometry (event.GiveUp lane tag) fetched m =
-    for_taken tag (tag_at m.side lane tag) m (λ command reads.
+called geometry (event.GiveUp lane tag) fetched m = for_taken tag (tag_at m.side lane tag) m (λ command reads.
     replied reply.Done (ended_at_once lane (group_at m.side lane tag) command (done_with InternalError) m))
 called geometry (event.Reap lane) fetched m = for_one (slice_get m.side.lanes lane) m (λ l. reap lane l fetched m)
-called geometry (event.Post lane tag) fetched m =
-    for_ended tag (tag_at m.side lane tag) m (λ command.
-    for_owner (owner_in geometry m.side command.guest) m (λ o.
-    (let tags = group_at m.side lane tag in
+called geometry (event.Post lane tag) fetched m = for_ended tag (tag_at m.side lane tag) m (λ command.
+    for_owner (owner_in geometry m.side command.guest) m (λ o. (let tags = group_at m.side lane tag in
     post_all (statuses_of lane tags m.side) command geometry.mediator lane tags o m)))
 called geometry _ fetched m = replied reply.Ignored m
 

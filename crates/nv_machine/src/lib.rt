@@ -9,3 +9,4 @@
 #![tactic(auto)]
 
 pub mod laws;
+pub mod rows;

@@ -4,7 +4,7 @@
 
 use std::io;
 use std::os::fd::AsFd;
-use std::sync::mpsc::{channel, Receiver, RecvTimeoutError};
+use std::sync::mpsc::{channel, Receiver};
 use std::sync::Arc;
 use std::thread::{self, JoinHandle};
 use std::time::{Duration, Instant};
@@ -17,12 +17,13 @@ use vm_memory::VolatileSlice;
 
 use crate::config::{Config, Connection, Doorbells, DriveConfig, GuestConfig, Interrupts, BLOCK};
 use crate::drive::nvme::Needs;
+use crate::drive::opening::{Open, OpeningDrive, Tell};
 use crate::drive::prp::SharedMemory;
-use crate::drive::qtest::QtestDrive;
+use crate::drive::qtest::FoundQemu;
 use crate::drive::ram::RamDrive;
 use crate::drive::reached::Reached;
 use crate::drive::vfio::VfioDrive;
-use crate::drive::{Drive, DriveError};
+use crate::drive::DriveError;
 use crate::guest::function::Function;
 use crate::guest::{self, Guest, Report, Reports, Source};
 use crate::interrupts::Signals as VectorSignals;
@@ -117,6 +118,7 @@ pub enum Outcome {
 
 /// A guest's thread, as the program has it.
 struct Thread {
+    number: usize,
     outbox: Arc<Outbox>,
     handle: JoinHandle<()>,
 }
@@ -125,11 +127,24 @@ struct Thread {
 pub struct Host {
     mediation: JoinHandle<End>,
     stop: Stop,
-    guests: Vec<Thread>,
+    threads: Vec<Thread>,
+    /// Guests whose QEMUs are started once the drive is there.
+    waiting: Vec<guest::Parts>,
     reports: Receiver<Report>,
+    opened: Receiver<Result<String, DriveError>>,
     bell: Arc<Bell>,
+    lines: Lines,
+    /// Guests that have not begun, of those that have threads; and how long they may take.
+    beginning: usize,
+    begin_by: Instant,
     /// Guests that have not ended.
     left: usize,
+}
+
+/// Lines of the configuration, for errors.
+struct Lines {
+    drive: u32,
+    connections: Vec<u32>,
 }
 
 impl SharedMemory for Window {
@@ -151,44 +166,51 @@ impl Counts for Counted {
 }
 
 impl Host {
-    /// Makes memory, mediator and drive as the configuration says, and lets guests begin. `counting`: each second has a line of what the drive was given.
+    /// Makes memory and mediator as the configuration says, lets clients connect, and begins to open the drive. `counting`: each second has a line of what
+    /// the drive was given.
     ///
     /// # Errors
     ///
     /// See [`HostError`]. Nothing goes on then.
     pub fn begin(config: &Config, counting: bool) -> Result<Self, HostError> {
+        Self::begin_over(config, counting, |layout, window| find_drive(config, layout, window))
+    }
+
+    /// The same over a drive that `find` finds: before anybody else uses the window it says what will open the drive.
+    ///
+    /// # Errors
+    ///
+    /// See [`HostError`]. Nothing goes on then.
+    pub fn begin_over(
+        config: &Config,
+        counting: bool,
+        find: impl FnOnce(&Layout, &Arc<Window>) -> Result<Open, DriveError>,
+    ) -> Result<Self, HostError> {
         raise_limits();
         let layout = plan(config)?;
         let window = Window::reserve(layout.bytes)?;
         let _drives_file = map_own(config, &layout, &window)?;
         let memories = map_guests(config, &layout, &window)?;
+        let mediator = set_up(config, &layout, &window)?;
+        let open = find(&layout, &window).map_err(|error| drive_error(config, error))?;
         let sources = listen(config)?;
-        // the set-up is tried before anything of the drive is made
-        let mut mediator = Mediator::serve(Arc::clone(&window), &layout.set_up(config))?;
-        share(&mut mediator, config)?;
-        let drive = open_drive(config, &layout, &window).map_err(|error| drive_error(config, error))?;
-        tracing::info!("the drive: {}", drive.describe());
-
+        let own_bell = Arc::new(Bell::new()?);
+        let (tell, opened) = teller(&own_bell);
         let bell = Arc::new(Bell::new()?);
-        let mut posts = Vec::new();
-        let mut ends = Vec::new();
-        for guest in &config.guests {
-            let (sender, receiver) = mailbox(Arc::clone(&bell));
-            let outbox = Arc::new(Outbox::new()?);
-            let signals = Arc::new(VectorSignals::new()?);
-            posts.push(Post {
-                mailbox: receiver,
-                outbox: Arc::clone(&outbox),
-                signals: Arc::clone(&signals),
-                version: guest.version,
-            });
-            ends.push((sender, outbox, signals));
-        }
+        let (queue, reports) = channel();
+        let reporter = Reports {
+            queue,
+            bell: Arc::clone(&own_bell),
+        };
+        let guests = config.guests.iter().zip(memories).zip(sources).enumerate();
+        let (posts, parts) = guests
+            .map(|(number, ((is, memory), source))| ends(number, is, memory, source, &bell, &reporter))
+            .collect::<Result<(Vec<_>, Vec<_>), _>>()?;
         let mediation = Mediation::new(mediation::Parts {
             side: Library::new(mediator),
             lanes: config.lanes as usize,
             window,
-            drive,
+            drive: Box::new(OpeningDrive::new(open, tell)?),
             posts,
             bell,
             spin: config.spin,
@@ -199,96 +221,66 @@ impl Host {
         let mediation = thread::Builder::new()
             .name("mediator".to_owned())
             .spawn(move || mediation.run())?;
-
-        let (queue, reports) = channel();
+        let (listening, waiting) = parts.into_iter().partition(guest::Parts::listens);
         let mut host = Self {
             mediation,
             stop,
-            guests: Vec::new(),
+            threads: Vec::new(),
+            waiting,
             reports,
-            bell: Arc::new(Bell::new()?),
+            opened,
+            bell: own_bell,
+            lines: Lines {
+                drive: config.drive_line,
+                connections: config.guests.iter().map(|guest| guest.lines.connection).collect(),
+            },
+            beginning: 0,
+            begin_by: Instant::now(),
             left: config.guests.len(),
         };
-        let reports = Reports {
-            queue,
-            bell: Arc::clone(&host.bell),
-        };
-        let guests = config.guests.iter().zip(memories).zip(sources).zip(ends).enumerate();
-        for (number, (((is, memory), source), (sender, outbox, signals))) in guests {
-            let pin = is.interrupts == Interrupts::Pin;
-            let function = Function::new(pin, Arc::clone(&signals), sender);
-            let parts = guest::Parts {
-                number,
-                memory,
-                function,
-                outbox: Arc::clone(&outbox),
-                signals,
-                page: is.doorbells == Doorbells::Page,
-                pin,
-                source,
-                reports: reports.clone(),
-            };
-            let begun = thread::Builder::new()
+        match host.start(listening) {
+            Ok(()) => Ok(host),
+            Err(error) => {
+                host.end();
+                Err(error)
+            }
+        }
+    }
+
+    /// Starts guests' threads.
+    fn start(&mut self, guests: Vec<guest::Parts>) -> Result<(), HostError> {
+        self.begin_by = Instant::now() + BEGIN_WAIT;
+        for parts in guests {
+            let (number, outbox) = (parts.number, Arc::clone(&parts.outbox));
+            let handle = thread::Builder::new()
                 .name(format!("guest-{number}"))
-                .spawn(move || Guest::new(parts).run());
-            match begun {
-                Ok(handle) => host.guests.push(Thread { outbox, handle }),
-                Err(error) => return Err(host.fail(error.into())),
-            }
+                .spawn(move || Guest::new(parts).run())?;
+            self.beginning += 1;
+            self.threads.push(Thread { number, outbox, handle });
         }
-        host.await_begins(config)
+        Ok(())
     }
 
-    /// Until all guests have begun.
-    fn await_begins(mut self, config: &Config) -> Result<Self, HostError> {
-        let end = Instant::now() + BEGIN_WAIT;
-        for _ in 0..config.guests.len() {
-            let error = loop {
-                match self.reports.recv_timeout(end.saturating_duration_since(Instant::now())) {
-                    Ok(Report::Begun(_, Ok(()))) => break None,
-                    Ok(Report::Begun(guest, Err(error))) => {
-                        let line = config.guests.get(guest).map_or(0, |g| g.lines.connection);
-                        break Some(HostError::Process { guest, line, error });
-                    }
-                    Ok(Report::Over(_)) => self.left = self.left.saturating_sub(1),
-                    Err(RecvTimeoutError::Timeout | RecvTimeoutError::Disconnected) => break Some(HostError::Late),
-                }
-            };
-            if let Some(error) = error {
-                return Err(self.fail(error));
-            }
-        }
-        Ok(self)
-    }
-
-    /// Ends what has begun; the first error is the one that counts.
-    fn fail(self, error: HostError) -> HostError {
-        self.end();
-        error
-    }
-
-    /// What asks the mediator's thread to end, for tests.
-    #[must_use]
-    pub fn guests_left(&self) -> usize {
-        self.left
-    }
-
-    /// Waits until all guests have ended, the drive has failed, or a signal has come.
-    pub fn wait(&mut self, signals: &Signals) {
-        while !self.is_over() {
+    /// Waits until all guests have ended, the drive has failed, or a signal has come. QEMUs are started once the drive is there.
+    ///
+    /// # Errors
+    ///
+    /// The drive cannot be opened, or a guest cannot begin. [`Host::end`] is to be called then, too.
+    pub fn wait(&mut self, signals: &Signals) -> Result<(), HostError> {
+        while !self.is_over()? {
             match signals.take() {
                 Ok(None) => {}
                 Ok(Some(signal)) => {
                     tracing::info!("ends by {}", signal.as_str());
-                    return;
+                    return Ok(());
                 }
                 Err(error) => {
                     tracing::error!("signals cannot be taken: {error}");
-                    return;
+                    return Ok(());
                 }
             }
             self.bell.lie_down();
-            if !self.is_over() {
+            if !self.is_over()? {
                 let mut fds = [
                     PollFd::new(self.bell.fd(), PollFlags::POLLIN),
                     PollFd::new(signals.wake(), PollFlags::POLLIN),
@@ -298,29 +290,50 @@ impl Host {
             }
             self.bell.get_up();
         }
+        Ok(())
     }
 
-    /// Whether all guests have ended, or the drive has failed.
-    pub fn is_over(&mut self) -> bool {
+    /// Whether all guests have ended, or the drive has failed. It takes what was reported until now.
+    ///
+    /// # Errors
+    ///
+    /// As of [`Host::wait`].
+    pub fn is_over(&mut self) -> Result<bool, HostError> {
+        if let Ok(opened) = self.opened.try_recv() {
+            let line = self.lines.drive;
+            let words = opened.map_err(|error| HostError::Drive { line, error })?;
+            tracing::info!("the drive: {words}");
+            let waiting = std::mem::take(&mut self.waiting);
+            self.start(waiting)?;
+        }
         while let Ok(report) = self.reports.try_recv() {
-            if matches!(report, Report::Over(_)) {
-                self.left = self.left.saturating_sub(1);
+            match report {
+                Report::Begun(_, Ok(())) => self.beginning = self.beginning.saturating_sub(1),
+                Report::Begun(guest, Err(error)) => {
+                    let line = self.lines.connections.get(guest).copied().unwrap_or(0);
+                    return Err(HostError::Process { guest, line, error });
+                }
+                Report::Over(_) => self.left = self.left.saturating_sub(1),
             }
         }
-        self.left == 0 || self.mediation.is_finished()
+        if self.beginning != 0 && Instant::now() >= self.begin_by {
+            return Err(HostError::Late);
+        }
+        Ok(self.left == 0 || self.mediation.is_finished())
     }
 
     /// Ends all threads, and closes the drive.
     pub fn end(self) -> Outcome {
-        for guest in &self.guests {
+        for guest in &self.threads {
             guest.outbox.stop();
         }
         let end = Instant::now() + END_WAIT;
-        for (number, guest) in self.guests.into_iter().enumerate() {
+        for guest in self.threads {
             while !guest.handle.is_finished() && Instant::now() < end {
                 thread::sleep(Duration::from_millis(2));
             }
             if !guest.handle.is_finished() {
+                let number = guest.number;
                 tracing::warn!("guest {number}: its client holds its thread up, which is left behind");
             }
         }
@@ -336,6 +349,58 @@ impl Host {
             _ => Outcome::DriveFailed,
         }
     }
+}
+
+/// The two ends of what a guest's thread and the mediator's have between them.
+fn ends(
+    number: usize,
+    is: &GuestConfig,
+    memory: GuestMemory,
+    source: Source,
+    mediators_bell: &Arc<Bell>,
+    reports: &Reports,
+) -> Result<(Post, guest::Parts), HostError> {
+    let (sender, mailbox) = mailbox(Arc::clone(mediators_bell));
+    let outbox = Arc::new(Outbox::new()?);
+    let signals = Arc::new(VectorSignals::new()?);
+    let pin = is.interrupts == Interrupts::Pin;
+    let post = Post {
+        mailbox,
+        outbox: Arc::clone(&outbox),
+        signals: Arc::clone(&signals),
+        version: is.version,
+    };
+    let parts = guest::Parts {
+        number,
+        memory,
+        function: Function::new(pin, Arc::clone(&signals), sender),
+        outbox,
+        signals,
+        page: is.doorbells == Doorbells::Page,
+        pin,
+        source,
+        reports: reports.clone(),
+    };
+    Ok((post, parts))
+}
+
+/// What tells whether the drive was opened, and where that is read.
+fn teller(bell: &Arc<Bell>) -> (Tell, Receiver<Result<String, DriveError>>) {
+    let (sender, opened) = channel();
+    let bell = Arc::clone(bell);
+    let tell: Tell = Box::new(move |result| {
+        // the program is at its end where nobody reads it
+        let _ended = sender.send(result);
+        bell.ring();
+    });
+    (tell, opened)
+}
+
+/// The set-up is tried before anything of the drive is made.
+fn set_up(config: &Config, layout: &Layout, window: &Arc<Window>) -> Result<Mediator<Arc<Window>>, HostError> {
+    let mut mediator = Mediator::serve(Arc::clone(window), &layout.set_up(config))?;
+    share(&mut mediator, config)?;
+    Ok(mediator)
 }
 
 fn drive_error(config: &Config, error: DriveError) -> HostError {
@@ -438,24 +503,28 @@ fn counts(config: &Config) -> Box<dyn Counts> {
     Box::new(Counted(Statistics::new(Owners::new(extents), config.guests.len())))
 }
 
-fn open_drive(config: &Config, layout: &Layout, window: &Arc<Window>) -> Result<Box<dyn Drive>, DriveError> {
-    let reached = Reached::new(Arc::clone(window), layout.reached());
+/// Finds the drive, as far as that has to be done before anybody else uses the window: what opens it.
+fn find_drive(config: &Config, layout: &Layout, window: &Arc<Window>) -> Result<Open, DriveError> {
+    let memory = Arc::clone(window);
+    let reached = Arc::new(Reached::new(Arc::clone(window), layout.reached()));
     let needs = Needs {
         admin: layout.admin,
         blocks: config.blocks(),
         lanes: config.lanes,
         interrupts: true,
     };
-    match &config.drive {
-        DriveConfig::Ram { bytes, image } => {
+    Ok(match config.drive.clone() {
+        DriveConfig::Ram { bytes, image } => Box::new(move || {
             let blocks = bytes / BLOCK;
-            let memory = Arc::clone(window);
             Ok(match image {
-                Some(image) => Box::new(RamDrive::in_file(memory, blocks, image)?),
+                Some(image) => Box::new(RamDrive::in_file(memory, blocks, &image)?),
                 None => Box::new(RamDrive::in_memory(memory, blocks)?),
             })
+        }),
+        DriveConfig::Qemu { socket, .. } => {
+            let found = FoundQemu::at(&socket, reached, needs)?;
+            Box::new(move || Ok(Box::new(found.open()?)))
         }
-        DriveConfig::Qemu { socket, .. } => Ok(Box::new(QtestDrive::open(socket, Arc::new(reached), needs)?)),
-        DriveConfig::Vfio { address } => Ok(Box::new(VfioDrive::open(address, Arc::new(reached), needs)?)),
-    }
+        DriveConfig::Vfio { address } => Box::new(move || Ok(Box::new(VfioDrive::open(&address, reached, needs)?))),
+    })
 }

@@ -170,9 +170,14 @@ fn serve(path: &Path, counting: bool, signals: &Signals) -> u8 {
             return FAILED;
         }
     };
-    host.wait(signals);
-    match host.end() {
-        Outcome::Good => ENDED,
-        Outcome::DriveFailed => DRIVE_FAILED,
+    let waited = host.wait(signals);
+    let outcome = host.end();
+    match (waited, outcome) {
+        (Err(error), _) => {
+            tracing::error!("{}: {error}", path.display());
+            FAILED
+        }
+        (Ok(()), Outcome::Good) => ENDED,
+        (Ok(()), Outcome::DriveFailed) => DRIVE_FAILED,
     }
 }

@@ -3,81 +3,16 @@
 
 mod client;
 mod guest;
+mod program;
 
 use std::io::Read;
-use std::process::{Child, Command, Output, Stdio};
 use std::time::{Duration, Instant};
 
 use client::hostile::{odd_descriptors, Hostile};
 use client::Client;
-use guest::{configuration, is_real, Folder, Guest};
-use nix::sys::signal::{kill, Signal};
-use nix::unistd::Pid;
-
-/// The program, which ends with this value.
-struct Program(Child);
-
-impl Program {
-    fn start(folder: &Folder, text: &str, words: &[&str]) -> Self {
-        let path = folder.path("configuration");
-        std::fs::write(&path, text).unwrap();
-        let child = Command::new(env!("CARGO_BIN_EXE_nvmed-host"))
-            .args(words)
-            .arg(path)
-            .stdin(Stdio::null())
-            .stdout(Stdio::null())
-            .stderr(Stdio::piped())
-            .spawn()
-            .unwrap();
-        Self(child)
-    }
-
-    fn signal(&self, signal: Signal) {
-        kill(Pid::from_raw(self.0.id() as i32), signal).unwrap();
-    }
-
-    fn status(&mut self) -> i32 {
-        self.0.wait().unwrap().code().unwrap()
-    }
-
-    fn said(&mut self) -> String {
-        let mut text = String::new();
-        self.0.stderr.take().unwrap().read_to_string(&mut text).unwrap();
-        text
-    }
-
-    /// Ticks of processor time, of all threads.
-    fn ticks(&self) -> u64 {
-        let stat = std::fs::read_to_string(format!("/proc/{}/stat", self.0.id())).unwrap();
-        let fields: Vec<&str> = stat.rsplit_once(')').unwrap().1.split_whitespace().collect();
-        fields[11].parse::<u64>().unwrap() + fields[12].parse::<u64>().unwrap()
-    }
-}
-
-impl Drop for Program {
-    fn drop(&mut self) {
-        let _ = self.0.kill();
-        let _ = self.0.wait();
-    }
-}
-
-fn run(words: &[&str]) -> (i32, String, String) {
-    let Output { status, stdout, stderr } = Command::new(env!("CARGO_BIN_EXE_nvmed-host"))
-        .args(words)
-        .output()
-        .unwrap();
-    let text = |bytes| String::from_utf8(bytes).unwrap();
-    (status.code().unwrap(), text(stdout), text(stderr))
-}
-
-fn connect(folder: &Folder, name: &str) -> Guest {
-    let begin = Instant::now();
-    while !folder.path(name).exists() {
-        assert!(begin.elapsed() < Duration::from_secs(10));
-        std::thread::sleep(Duration::from_millis(5));
-    }
-    Guest::connect(&folder.path(name)).unwrap()
-}
+use guest::{configuration, is_real, Folder};
+use nix::sys::signal::Signal;
+use program::{connect, run, Program};
 
 #[test]
 fn words_and_statuses() {
@@ -181,6 +116,24 @@ fn a_set_up_that_is_refused_makes_nothing() {
     let mut program = Program::start(&folder, &text, &[]);
     assert_eq!(program.status(), 1);
     assert!(!image.exists());
+}
+
+/// Clients can connect before the drive is there: their sockets go with it.
+#[test]
+fn a_drive_that_cannot_be_opened_leaves_no_socket_behind() {
+    let folder = Folder::new("no-drive");
+    let image = folder.path("no/such/image");
+    let text = configuration(&folder, 2, "").replace("drive ram 16M", &format!("drive ram 16M {}", image.display()));
+    let mut program = Program::start(&folder, &text, &[]);
+    assert_eq!(program.status(), 1);
+    let said = program.said();
+    assert!(
+        said.contains("line 1: the drive: ") && said.contains("no/such/image"),
+        "{said}"
+    );
+    for guest in ["g0", "g1"] {
+        assert!(!folder.path(guest).exists(), "{guest}");
+    }
 }
 
 /// Nobody reads what it says, of which there is much.

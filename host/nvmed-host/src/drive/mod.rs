@@ -5,6 +5,7 @@
 
 pub mod entry;
 pub mod nvme;
+pub mod opening;
 pub mod prp;
 pub mod qtest;
 pub mod ram;

@@ -112,6 +112,14 @@ pub struct Parts {
     pub reports: Reports,
 }
 
+impl Parts {
+    /// Whether clients connect by themselves.
+    #[must_use]
+    pub fn listens(&self) -> bool {
+        matches!(self.source, Source::Listen(_))
+    }
+}
+
 /// Why a connection is over.
 #[derive(Debug, thiserror::Error)]
 enum Lost {
@@ -246,14 +254,19 @@ impl Guest {
                 },
                 _ => return Ok(None),
             };
-            // such as too many open files: it is tried again later
-            let accepted = listener.accept().unwrap_or_else(|error| {
-                self.lines.warn(format_args!("its connection cannot be taken: {error}"));
-                None
-            });
-            if accepted.is_none() {
-                wait(&[listener.as_fd(), self.outbox.fd()], most).map_err(Lost::Wait)?;
-            }
+            let accepted = match listener.accept() {
+                Ok(Some(socket)) => Some(socket),
+                Ok(None) => {
+                    wait(&[listener.as_fd(), self.outbox.fd()], most).map_err(Lost::Wait)?;
+                    None
+                }
+                // such as too many open files: it is tried again later; until then the socket stays readable, so it is not looked at
+                Err(error) => {
+                    self.lines.warn(format_args!("its connection cannot be taken: {error}"));
+                    wait(&[self.outbox.fd()], LOOK).map_err(Lost::Wait)?;
+                    None
+                }
+            };
             self.stopped |= self.outbox.take().stop;
             if self.stopped {
                 return Err(Lost::Stop);
@@ -359,7 +372,8 @@ impl Guest {
         loop {
             let news = self.outbox.take();
             self.stopped |= news.stop;
-            if news.stop {
+            // the end may have been told while the client was served
+            if self.stopped {
                 return Err(Lost::Stop);
             }
             if news.run_out {

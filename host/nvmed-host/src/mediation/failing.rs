@@ -102,3 +102,6 @@ pub fn close(drive: Box<dyn Drive>) -> io::Result<JoinHandle<Result<(), DriveErr
         .name("drive-close".to_owned())
         .spawn(move || drive.close())
 }
+
+#[cfg(test)]
+mod tests;

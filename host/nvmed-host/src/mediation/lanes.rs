@@ -196,6 +196,13 @@ impl Lanes {
             .position(|lane| lane.flying != 0 && now.saturating_duration_since(lane.since) >= limit)
     }
 
+    /// The drive is being opened or reset: its time for answers begins anew.
+    pub fn excuse(&mut self, now: Instant) {
+        for lane in &mut self.lanes {
+            lane.since = now;
+        }
+    }
+
     /// The drive is gone, and with it what it had.
     pub fn forget(&mut self) {
         for lane in &mut self.lanes {

@@ -338,9 +338,11 @@ impl<S: Side> Mediation<S> {
         let Some(drive) = self.disk.good() else { return Ok(()) };
         drive.check()?;
         self.recovering = drive.recover().is_some_and(|it| it.is_recovering());
-        match self.lanes.silent(now, SILENCE) {
+        if self.recovering {
             // it has limits of its own
-            Some(_) if self.recovering => Ok(()),
+            self.lanes.excuse(now);
+        }
+        match self.lanes.silent(now, SILENCE) {
             Some(lane) => Err(Failure::Silent(lane)),
             None => Ok(()),
         }

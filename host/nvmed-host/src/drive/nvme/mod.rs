@@ -19,6 +19,7 @@ mod found;
 pub mod identify;
 mod lane;
 pub mod memory;
+mod physical;
 #[cfg(test)]
 mod tests;
 
@@ -28,6 +29,7 @@ pub use controller::{Controller, ABORT_AFTER, MOST_LANES, RESETS, RESET_AFTER, R
 pub use event::Event;
 pub use found::{Found, Needs};
 pub use memory::DriveMemory;
+pub use physical::Physical;
 
 use super::DriveError;
 use std::time::Duration;

@@ -12,8 +12,6 @@ mod socket;
 #[cfg(test)]
 mod tests;
 
-use std::fmt::Write;
-use std::os::fd::BorrowedFd;
 use std::os::unix::net::UnixStream;
 use std::path::Path;
 use std::sync::atomic::{fence, Ordering};
@@ -23,8 +21,8 @@ pub use socket::{Place, Socket, ANSWER_WAIT, MOST_POSTED};
 
 use super::nvme::access::property::DOORBELLS;
 use super::nvme::memory::{load32, store32};
-use super::nvme::{Access, Controller, DriveMemory, Needs, Recover};
-use super::{Budget, Drive, DriveError, LaneRings, Progress, Reach};
+use super::nvme::{Access, Controller, DriveMemory, Needs, Physical};
+use super::{DriveError, Reach};
 
 /// Where the window's pieces may lie.
 pub const REACH: Reach = Reach {
@@ -46,7 +44,7 @@ const COMMAND_SILENT: u32 = 1 << 10;
 const CLASS_NVME: u32 = 0x01_0802;
 
 /// BAR0 by the socket.
-struct Bar {
+pub struct Bar {
     socket: Socket,
     place: Place,
     bytes: u32,
@@ -107,133 +105,111 @@ pub struct QtestDrive {
     controller: Controller<Bar>,
 }
 
+/// A QEMU that has the window's memory and a controller, which is not opened yet.
+pub struct FoundQemu {
+    socket: Socket,
+    place: Place,
+    memory: Arc<dyn DriveMemory>,
+    needs: Needs,
+}
+
 fn unusable<T>(words: String) -> Result<T, DriveError> {
     Err(DriveError::Unusable(words))
 }
 
-impl QtestDrive {
-    /// Opens the controller of the QEMU whose qtest socket is at `path`. That QEMU has the window's memory is tried by a pattern at both ends of each
+impl FoundQemu {
+    /// Finds the controller of the QEMU whose qtest socket is at `path`. That QEMU has the window's memory is tried by a pattern at both ends of each
     /// piece, which are then as they were: nothing else may use the window meanwhile.
     ///
-    /// Errors: where QEMU cannot be reached or has other memory, where there is not one NVMe function on bus 0, and as of [`Controller::open`].
+    /// Errors: where QEMU cannot be reached or has other memory, and where there is not one NVMe function on bus 0.
+    pub fn at(path: &Path, memory: Arc<dyn DriveMemory>, needs: Needs) -> Result<Self, DriveError> {
+        Self::by(Socket::connect(path)?, memory, needs)
+    }
+
+    fn by(mut socket: Socket, memory: Arc<dyn DriveMemory>, needs: Needs) -> Result<Self, DriveError> {
+        check_reach(&*memory)?;
+        check_shared(&mut socket, &*memory)?;
+        let place = find_function(&mut socket)?;
+        let needs = Needs {
+            interrupts: false,
+            ..needs
+        };
+        Ok(Self {
+            socket,
+            place,
+            memory,
+            needs,
+        })
+    }
+
+    /// Opens the controller. Others may use the window.
+    ///
+    /// Errors: where the function cannot be set up, and as of [`Controller::open`].
+    pub fn open(mut self) -> Result<QtestDrive, DriveError> {
+        let place = self.place;
+        let bytes = match set_up_function(&mut self.socket, place) {
+            Ok(bytes) => bytes,
+            Err(why) => {
+                // The first reason is reported; however far it came, the controller makes no accesses of the window.
+                let _ = self.socket.config_write(place, COMMAND, COMMAND_SILENT);
+                return Err(why);
+            }
+        };
+        let bar = Bar {
+            socket: self.socket,
+            place,
+            bytes,
+            wanted: None,
+        };
+        let mut drive = QtestDrive {
+            controller: Controller::new(bar, self.memory, self.needs),
+        };
+        let opened = drive.controller.open();
+        if opened.is_err() {
+            // As above.
+            let _ = drive.silence();
+        }
+        opened.map(|()| drive)
+    }
+}
+
+impl QtestDrive {
+    /// Finds and opens the controller of the QEMU whose qtest socket is at `path`: see [`FoundQemu::at`] and [`FoundQemu::open`].
     pub fn open(path: &Path, memory: Arc<dyn DriveMemory>, needs: Needs) -> Result<Self, DriveError> {
-        Self::begin(Socket::connect(path)?, memory, needs)
+        FoundQemu::at(path, memory, needs)?.open()
     }
 
     /// The same on a connected socket.
     pub fn on(stream: UnixStream, memory: Arc<dyn DriveMemory>, needs: Needs) -> Result<Self, DriveError> {
-        Self::begin(Socket::on(stream)?, memory, needs)
+        FoundQemu::by(Socket::on(stream)?, memory, needs)?.open()
+    }
+}
+
+impl Physical for QtestDrive {
+    type Access = Bar;
+
+    fn controller(&self) -> &Controller<Bar> {
+        &self.controller
     }
 
-    fn begin(mut socket: Socket, memory: Arc<dyn DriveMemory>, needs: Needs) -> Result<Self, DriveError> {
-        check_reach(&*memory)?;
-        check_shared(&mut socket, &*memory)?;
-        let place = find_function(&mut socket)?;
-        match set_up_function(&mut socket, place) {
-            Ok(bytes) => {
-                let needs = Needs {
-                    interrupts: false,
-                    ..needs
-                };
-                let bar = Bar {
-                    socket,
-                    place,
-                    bytes,
-                    wanted: None,
-                };
-                let mut it = Self {
-                    controller: Controller::new(bar, memory, needs),
-                };
-                let opened = it.controller.open();
-                if opened.is_err() {
-                    // The first reason is reported; however far it came, the controller makes no accesses of the window.
-                    let _ = it.silence();
-                }
-                opened.map(|()| it)
-            }
-            Err(why) => {
-                // As above.
-                let _ = socket.config_write(place, COMMAND, COMMAND_SILENT);
-                Err(why)
-            }
-        }
+    fn controller_mut(&mut self) -> &mut Controller<Bar> {
+        &mut self.controller
+    }
+
+    /// QEMU's answers to what was posted.
+    fn hear(&mut self) -> Result<(), DriveError> {
+        self.controller.access_mut().socket.work()
+    }
+
+    fn place(&self) -> String {
+        let Place { device, function } = self.controller.access().place;
+        format!("of QEMU at 00:{device:02x}.{function}")
     }
 
     /// Switches bus mastering off: the controller makes no access of the window then.
     fn silence(&mut self) -> Result<(), DriveError> {
         let bar = self.controller.access_mut();
         bar.socket.config_write(bar.place, COMMAND, COMMAND_SILENT)
-    }
-}
-
-impl Recover for QtestDrive {
-    fn oldest(&self, lane: usize) -> Option<std::time::Duration> {
-        Recover::oldest(&self.controller, lane)
-    }
-
-    fn abort(&mut self, lane: usize) -> Result<(), DriveError> {
-        self.controller.abort(lane)
-    }
-
-    fn reset(&mut self) -> Result<(), DriveError> {
-        self.controller.reset()
-    }
-
-    fn is_recovering(&self) -> bool {
-        self.controller.is_recovering()
-    }
-}
-
-impl Drive for QtestDrive {
-    fn create_lanes(&mut self, lanes: &[LaneRings]) -> Result<(), DriveError> {
-        self.controller.create_lanes(lanes)
-    }
-
-    fn ring_submission(&mut self, lane: usize, tail: u32) -> Result<(), DriveError> {
-        self.controller.ring_submission(lane, tail)
-    }
-
-    fn ring_completion(&mut self, lane: usize, head: u32) -> Result<(), DriveError> {
-        self.controller.ring_completion(lane, head)
-    }
-
-    fn work(&mut self, _budget: Budget) -> Result<Progress, DriveError> {
-        self.controller.access_mut().socket.work()?;
-        self.controller.work()?;
-        Ok(Progress::default())
-    }
-
-    fn check(&mut self) -> Result<(), DriveError> {
-        self.controller.access_mut().socket.work()?;
-        self.controller.check()
-    }
-
-    fn wake(&self) -> Option<BorrowedFd<'_>> {
-        None
-    }
-
-    fn describe(&self) -> String {
-        let mut words = String::new();
-        let place = self.controller.access().place;
-        // Writing to a String cannot fail.
-        let _ = write!(
-            words,
-            "of QEMU at 00:{:02x}.{}: {}",
-            place.device,
-            place.function,
-            self.controller.found()
-        );
-        words
-    }
-
-    fn recover(&mut self) -> Option<&mut dyn Recover> {
-        Some(self)
-    }
-
-    fn close(mut self: Box<Self>) -> Result<(), DriveError> {
-        let closed = self.controller.close();
-        let silent = self.silence();
-        closed.and(silent)
     }
 }
 

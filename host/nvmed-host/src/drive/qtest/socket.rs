@@ -314,3 +314,6 @@ pub struct Place {
     /// 0 to 7.
     pub function: u8,
 }
+
+#[cfg(test)]
+mod tests;

@@ -9,6 +9,7 @@ use std::time::{Duration, Instant};
 
 use super::*;
 use crate::drive::nvme::fake::{Fake, Fault, TestMemory};
+use crate::drive::{Budget, Drive, LaneRings, Progress};
 use crate::memory::Piece;
 
 const FROM: u64 = 0x10_0000;

@@ -12,7 +12,6 @@ mod tests;
 use std::os::fd::{AsFd, BorrowedFd};
 use std::path::Path;
 use std::sync::Arc;
-use std::time::Duration;
 
 use nix::sys::eventfd::EventFd;
 
@@ -21,8 +20,8 @@ use self::device::Device;
 pub use self::device::ADDRESS_END;
 pub use self::kernel::{Kernel, Linux};
 use self::kernel::{IRQ_ERROR, IRQ_MSIX, IRQ_REQUEST};
-use super::nvme::{Controller, DriveMemory, Needs, Recover};
-use super::{Budget, Drive, DriveError, LaneRings, Progress, Reach};
+use super::nvme::{Controller, DriveMemory, Needs, Physical};
+use super::{DriveError, Reach};
 
 const CLASS_NVME: u32 = 0x01_0802;
 
@@ -102,42 +101,18 @@ fn was_signalled(event: Option<&EventFd>) -> bool {
     event.is_some_and(|event| event.read().is_ok())
 }
 
-impl Recover for VfioDrive {
-    fn oldest(&self, lane: usize) -> Option<Duration> {
-        Recover::oldest(&self.controller, lane)
+impl Physical for VfioDrive {
+    type Access = Bar;
+
+    fn controller(&self) -> &Controller<Bar> {
+        &self.controller
     }
 
-    fn abort(&mut self, lane: usize) -> Result<(), DriveError> {
-        self.controller.abort(lane)
+    fn controller_mut(&mut self) -> &mut Controller<Bar> {
+        &mut self.controller
     }
 
-    fn reset(&mut self) -> Result<(), DriveError> {
-        self.controller.reset()
-    }
-
-    fn is_recovering(&self) -> bool {
-        self.controller.is_recovering()
-    }
-}
-
-impl Drive for VfioDrive {
-    fn create_lanes(&mut self, lanes: &[LaneRings]) -> Result<(), DriveError> {
-        self.controller.create_lanes(lanes)
-    }
-
-    fn ring_submission(&mut self, lane: usize, tail: u32) -> Result<(), DriveError> {
-        self.controller.ring_submission(lane, tail)
-    }
-
-    fn ring_completion(&mut self, lane: usize, head: u32) -> Result<(), DriveError> {
-        self.controller.ring_completion(lane, head)
-    }
-
-    fn work(&mut self, _budget: Budget) -> Result<Progress, DriveError> {
-        self.controller.work().map(|()| Progress::default())
-    }
-
-    fn check(&mut self) -> Result<(), DriveError> {
+    fn hear_of_failures(&mut self) -> Result<(), DriveError> {
         let address = &self.address;
         if was_signalled(self.failed.as_ref()) {
             return Err(DriveError::Failed(format!(
@@ -149,32 +124,22 @@ impl Drive for VfioDrive {
                 "the kernel wants {address} back: it is unbound or pulled out"
             )));
         }
-        self.controller.check()
+        Ok(())
     }
 
-    /// While a reset goes on the drive is to be polled.
-    fn wake(&self) -> Option<BorrowedFd<'_>> {
-        self.wake
-            .as_ref()
-            .filter(|_| !self.controller.is_recovering())
-            .map(AsFd::as_fd)
+    fn interrupt(&self) -> Option<BorrowedFd<'_>> {
+        self.wake.as_ref().map(AsFd::as_fd)
     }
 
-    fn woken(&mut self) {
+    fn take_interrupt(&mut self) {
         was_signalled(self.wake.as_ref());
     }
 
-    fn describe(&self) -> String {
-        let polled = if self.wake.is_some() { "" } else { ", polled" };
-        format!("{}: {}{polled}", self.address, self.controller.found())
+    fn place(&self) -> String {
+        self.address.clone()
     }
 
-    fn recover(&mut self) -> Option<&mut dyn Recover> {
-        Some(self)
-    }
-
-    fn close(mut self: Box<Self>) -> Result<(), DriveError> {
-        let closed = self.controller.close();
+    fn silence(&mut self) -> Result<(), DriveError> {
         let stopped = self.device.set_master(false);
         for (event, index) in [
             (&self.wake, IRQ_MSIX),
@@ -185,6 +150,6 @@ impl Drive for VfioDrive {
                 self.device.no_interrupt(index);
             }
         }
-        closed.and(stopped)
+        stopped
     }
 }

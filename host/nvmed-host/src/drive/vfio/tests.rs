@@ -12,7 +12,7 @@ use std::path::PathBuf;
 use std::sync::atomic::{AtomicBool, AtomicU32, Ordering};
 use std::sync::{Mutex, MutexGuard};
 use std::thread::JoinHandle;
-use std::time::Instant;
+use std::time::{Duration, Instant};
 
 use nix::fcntl::{fcntl, FcntlArg, OFlag};
 use nix::sys::memfd::{memfd_create, MemFdCreateFlag};
@@ -23,6 +23,7 @@ use super::*;
 use crate::drive::nvme::access::property;
 use crate::drive::nvme::fake::{Fake, TestMemory};
 use crate::drive::nvme::Access;
+use crate::drive::{Budget, Drive, LaneRings, Progress};
 use crate::memory::Piece;
 
 const ADDRESS: &str = "0000:01:00.0";

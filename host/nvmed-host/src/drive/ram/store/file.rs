@@ -352,3 +352,6 @@ impl Store for FileStore {
         &self.words
     }
 }
+
+#[cfg(test)]
+mod tests;

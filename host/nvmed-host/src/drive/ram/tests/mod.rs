@@ -51,7 +51,7 @@ impl Memory {
         })
     }
 
-    /// The pieces that the C program's tests had: the first from 0x10000 to 0x90000, the second of two pages from 0x98000 on.
+    /// Two pieces: the first from 0x10000 to 0x90000, the second of two pages from 0x98000 on.
     pub fn usual() -> Arc<Memory> {
         let memory = Memory::new(1 << 20, &[(LOW, 0x80000), (HIGH, 0x2000)]);
         memory.fill(0, 1 << 20, 0xee);

@@ -1,0 +1,27 @@
+-- A call of the mediator's code, which is lent a memory, as a call of the machine without memory (profile).
+use Rattle.std.specs.Prelude.{◌≡◌, ℕ, List, ◌++◌, map, Option}
+use Rattle.nv_laws_sound.specs.Side.{Side}
+use Rattle.nv_laws_sound.specs.Unplaced.{unplaced_lane}
+use Rattle.nv_machine.specs.Effects.{effects_on}
+use Rattle.nv_machine.specs.Machine.{call, fetch, fetch_then}
+use Rattle.nv_model.specs.Memory.{byte_in}
+use Rattle.nv_model.specs.declared.reply.Reply.{Reply}
+use Rattle.nv_world_model.specs.Geometry.{Geometry}
+use Rattle.nv_world_model.specs.declared.event.Event.{Event}
+
+-- the bytes that lie in a memory at an event's fetch
+abbrev pub fetched_from : Geometry → Event → Side → (host : ℕ → ℕ) → List ℕ
+fetched_from geometry e s host =
+    (let first = map host (fetch geometry e s) in first ++ map host (fetch_then geometry e s first))
+
+-- two sides are the same but for the places of parts, which are the physical controller's
+pub record IsSameSide (s z : Side) : Type 0 where
+  pub lanes : map unplaced_lane s.lanes ≡ map unplaced_lane z.lanes
+  pub tails : s.tails ≡ z.tails
+  pub controllers : s.controllers ≡ z.controllers
+
+-- a call with that reply, which leaves that side and memory, is the machine's: with the bytes that lie in memory at its fetch, and its effects there
+pub record IsMachines (geometry : Geometry) (e : Event) (old : Side) (before : List ℕ) (r : Option Reply) (new : Side) (after : List ℕ) : Type 0 where
+  pub reply : (call geometry e (fetched_from geometry e old (byte_in before)) old).reply ≡ r
+  pub side : IsSameSide (call geometry e (fetched_from geometry e old (byte_in before)) old).now.side new
+  pub memory : byte_in after ≡ effects_on (call geometry e (fetched_from geometry e old (byte_in before)) old).now.effects (byte_in before)

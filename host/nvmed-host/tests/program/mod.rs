@@ -1,0 +1,85 @@
+//! The program as a process of its own, for tests.
+#![allow(dead_code, clippy::unwrap_used, clippy::expect_used, clippy::panic)]
+
+use std::io::Read;
+use std::os::unix::net::UnixStream;
+use std::process::{Child, Command, Output, Stdio};
+use std::time::{Duration, Instant};
+
+use nix::sys::signal::{kill, Signal};
+use nix::unistd::Pid;
+
+use crate::client::{Client, Memory};
+use crate::guest::{Bells, Folder, Guest, BYTES};
+
+/// Where the program is.
+pub const PROGRAM: &str = env!("CARGO_BIN_EXE_nvmed-host");
+
+/// The program, which ends with this value.
+pub struct Program(pub Child);
+
+impl Program {
+    /// Starts it with words before its configuration, which is put into the folder.
+    pub fn start(folder: &Folder, text: &str, words: &[&str]) -> Self {
+        let path = folder.path("configuration");
+        std::fs::write(&path, text).unwrap();
+        Self::run(Command::new(PROGRAM).args(words).arg(path))
+    }
+
+    /// Starts it by a command.
+    pub fn run(command: &mut Command) -> Self {
+        let command = command.stdin(Stdio::null()).stdout(Stdio::null());
+        Self(command.stderr(Stdio::piped()).spawn().unwrap())
+    }
+
+    pub fn signal(&self, signal: Signal) {
+        kill(Pid::from_raw(self.0.id() as i32), signal).unwrap();
+    }
+
+    pub fn status(&mut self) -> i32 {
+        self.0.wait().unwrap().code().unwrap()
+    }
+
+    /// All that it says until its end.
+    pub fn said(&mut self) -> String {
+        let mut text = String::new();
+        self.0.stderr.take().unwrap().read_to_string(&mut text).unwrap();
+        text
+    }
+
+    /// Ticks of processor time, of all threads.
+    pub fn ticks(&self) -> u64 {
+        let stat = std::fs::read_to_string(format!("/proc/{}/stat", self.0.id())).unwrap();
+        let fields: Vec<&str> = stat.rsplit_once(')').unwrap().1.split_whitespace().collect();
+        fields[11].parse::<u64>().unwrap() + fields[12].parse::<u64>().unwrap()
+    }
+}
+
+impl Drop for Program {
+    fn drop(&mut self) {
+        let _ = self.0.kill();
+        let _ = self.0.wait();
+    }
+}
+
+/// Runs it to its end: its status, and what it said on its standard output and error.
+pub fn run(words: &[&str]) -> (i32, String, String) {
+    let Output { status, stdout, stderr } = Command::new(PROGRAM).args(words).output().unwrap();
+    let text = |bytes| String::from_utf8(bytes).unwrap();
+    (status.code().unwrap(), text(stdout), text(stderr))
+}
+
+/// Connects a guest, once the program listens: a socket's path is there a moment before that.
+pub fn connect(folder: &Folder, name: &str) -> Guest {
+    let begin = Instant::now();
+    loop {
+        match UnixStream::connect(folder.path(name)) {
+            Ok(socket) => {
+                let client = Client::on(socket).unwrap();
+                return Guest::on(client, Memory::new(BYTES).unwrap(), Bells::Page).unwrap();
+            }
+            Err(error) => assert!(begin.elapsed() < Duration::from_secs(20), "{error}"),
+        }
+        std::thread::sleep(Duration::from_millis(5));
+    }
+}
