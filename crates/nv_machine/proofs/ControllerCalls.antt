@@ -1,12 +1,13 @@
 -- A guest's acts and admin steps change its controller alone of the mediator's side.
 use Rattle.std.proofs.Common.{◌≡◌, ℕ, not, ◌==◌, List, [], length, slice_index, Option, Some, None, refl}
+use Rattle.nv_entry.specs.Layout.{number_bytes}
 use Rattle.nv_entry.specs.Status.{StatusField}
 use Rattle.nv_entry.specs.Submission.{cid_of}
 use Rattle.nv_laws_sound.specs.Side.{Side}
-use Rattle.nv_machine.specs.Doing.{Doing}
+use Rattle.nv_machine.specs.Doing.{Doing, for_one, replied}
 use Rattle.nv_machine.specs.Effects.{Effect}
-use Rattle.nv_machine.specs.Machine.{acted_in, admin_stores, administered_in, answered_with, carried_by, completed_with, controlled, front_done, no_memory, ready_done}
-use Rattle.nv_machine.specs.Machine.{register_replied}
+use Rattle.nv_machine.specs.Machine.{acted_in, admin_stores, administered_in, answered_with, completed_with, controlled, front_done, ready_done}
+use Rattle.nv_machine.proofs.AdminWords.{carried_by, no_memory}
 use Rattle.nv_machine.proofs.CallWalks.{either}
 use Rattle.nv_machine.proofs.SideWorlds.{begun}
 use Rattle.nv_mem.specs.GuestMap.{all_mapped}
@@ -14,6 +15,7 @@ use Rattle.nv_model.specs.Admin.{AdminEffect, admin_command, answered, is_queue_
 use Rattle.nv_model.specs.Controller.{Controller, Deletion, Posted, completion_queue, doorbell, front, is_ready, post, reg_read, reg_write, took, with_submission}
 use Rattle.nv_model.specs.declared.act.Act.{Act}
 use Rattle.nv_model.specs.declared.act.Act.TheVariants as act
+use Rattle.nv_model.specs.declared.reply.Reply.TheVariants as reply
 use Rattle.nv_world_model.specs.Geometry.{regions_of, shape_of}
 use Rattle.nv_world_model.specs.Seat.{Owner}
 
@@ -26,7 +28,7 @@ module _ (o : Owner) (s : Side) where
   controlled-alone None = (refl, refl)
   controlled-alone (Some c) = (refl, refl)
 
-  register-alone : (value : Option ℕ) → Alone (register_replied value (begun s)).now
+  register-alone : (value : Option ℕ) → Alone (for_one value (begun s) (λ value. replied (reply.Bytes (number_bytes 4 value)) (begun s))).now
   register-alone None = (refl, refl)
   register-alone (Some value) = (refl, refl)
 
