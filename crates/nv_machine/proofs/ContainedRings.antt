@@ -140,12 +140,12 @@ module _ (host_bytes lanes : ℕ) (geometry : Geometry) (laid : IsLaidOut host_b
   abbrev Fine : Option ℕ → Doing → Type 0
   Fine number n =
       (lane tail behind slot : ℕ) → slice_get s.tails lane ≡ Some tail → slice_get n.side.tails lane ≡ Some behind → IsBetween tail behind slot
-      → MayPass geometry s n.side number lane slot n.effects
+      → MayPass geometry n.side number lane slot n.effects
 
   -- where the tails are as they were none is passed
   none-passed : (number : Option ℕ) (n : Doing) (lane tail behind slot : ℕ) → slice_get n.side.tails lane ≡ slice_get s.tails lane
       → slice_get s.tails lane ≡ Some tail → slice_get n.side.tails lane ≡ Some behind → IsBetween tail behind slot
-      → MayPass geometry s n.side number lane slot n.effects
+      → MayPass geometry n.side number lane slot n.effects
   none-passed number n lane tail behind slot same before past between =
       let one : behind ≡ tail = some-same behind tail (sym past ∙ same ∙ before) in
       absurd (between-none tail slot (kept.slots lane tail before) (subst (λ k. IsBetween tail k slot) one between))
@@ -166,13 +166,13 @@ module _ (host_bytes lanes : ℕ) (geometry : Geometry) (laid : IsLaidOut host_b
         n : Doing
         n = handed_on geometry.mediator lane tags shares command o (begun s)
 
-        by : (b : Bool) → (other == lane) ≡ b → MayPass geometry s n.side (Some command.guest) other slot n.effects
+        by : (b : Bool) → (other == lane) ≡ b → MayPass geometry n.side (Some command.guest) other slot n.effects
         by false differ =
             none-passed (Some command.guest) n other start behind slot (handed-elsewhere geometry.mediator lane command o tags shares (begun s) other differ)
             before past between
         by true here =
             subst (λ (k : ℕ). slice_get s.tails k ≡ Some start → slice_get n.side.tails k ≡ Some behind
-            → MayPass geometry s n.side (Some command.guest) k slot n.effects) (sym (eqb-true other lane here))
+            → MayPass geometry n.side (Some command.guest) k slot n.effects) (sym (eqb-true other lane here))
             (λ from to. entries-on geometry sound laid.pages s lane command o given tags shares (begun s) start from (kept.slots lane start from) room apart mine
             (λ k d below. refl) are behind slot to between) before past
 

@@ -12,7 +12,7 @@ use Rattle.nv_laws_sound.specs.Side.{IsKept}
 use Rattle.nv_machine.specs.Doing.{Doing, for_one, group_at, owner_in, tag_at, tag_put, told}
 use Rattle.nv_machine.specs.Effects.{Effect, effects_on}
 use Rattle.nv_machine.specs.InWorld.{in_world}
-use Rattle.nv_machine.specs.Machine.{bounce_effects, called, carried_out, carry_out, form_effects, handed_on, share_effects, submit_by, submitted_on}
+use Rattle.nv_machine.specs.Machine.{bounce_effects, called, carried_out, carry_out, form_effects, handed_on, share_effects, submit_by, submitted, submitted_on}
 use Rattle.nv_machine.proofs.Cases.{both-owner, both-taken, tag-lane}
 use Rattle.nv_machine.proofs.Effects.{copies-gather, effects_on-append}
 use Rattle.nv_machine.proofs.InWorlds.{Is, in-tail_put, in-told, no-rung, rung-there}

@@ -98,11 +98,11 @@ module _ (geometry : Geometry) (sound : AreSound geometry) (aligned : geometry.m
 
   -- that slot of the ring has an entry
   abbrev Has : Doing → ℕ → Type 0
-  Has n slot = HasEntry geometry s n.side command.guest lane slot n.effects
+  Has n slot = HasEntry geometry n.side command.guest lane slot n.effects
 
   -- one share, and what comes behind it
   module _ (tag few tail : ℕ) (share : Share) (m : Doing) (more : Doing → Doing) (at : slice_get m.side.tails lane ≡ Some tail) (low : tail < ring_size)
-      (mine : Mine tag) (still : Still m tag) (is : IsPlanned o.given command.entry share) (tags : List ℕ)
+      (mine : Mine tag) (still : Still m tag) (tags : List ℕ)
       (apart : All (λ n. (n == tag) ≡ false) tags) (others : All (Still m) tags)
       (keeps : (z : Doing) → tag_at (more z).side lane tag ≡ tag_at z.side lane tag)
       (hands : (z : Doing) (next : ℕ) → slice_get z.side.tails lane ≡ Some next → next < ring_size
@@ -124,13 +124,10 @@ module _ (geometry : Geometry) (sound : AreSound geometry) (aligned : geometry.m
         record {
           tag = tag;
           command = command;
-          reads = mine.reads;
-          taken = mine.there;
           whose = refl;
           given = o.given;
           is = given;
           share = share;
-          planned = is;
           stored =
               subst (λ (es : List Effect). Contains es last) (sym h.are)
               (Contains-append_left (m.effects ++ own) h.extra last (Contains-append_right m.effects own last one));
@@ -183,7 +180,7 @@ module _ (geometry : Geometry) (sound : AreSound geometry) (aligned : geometry.m
       let guests = All-weaker Mine (IsGuestsTag command.guest lane s) (taken-guests command lane s) tags (All-tail Mine tag tags mine) in
       let later = All-tail (IsPlanned o.given command.entry) share shares are in
       entry-next tag (length tags) tail share m (λ z. handed_on geometry.mediator lane tags shares command o z) at low
-      (All-head Mine tag tags mine) (All-head (Still m) tag tags still) (All-head (IsPlanned o.given command.entry) share shares are) tags apart.0
+      (All-head Mine tag tags mine) (All-head (Still m) tag tags still) tags apart.0
       (All-tail (Still m) tag tags still) (λ z. handed-other tags shares z tag apart.0)
       (λ z next found below. hands-on geometry sound aligned s lane command o given tags shares z next found below (omega (arith, room)) guests later)
       (λ z next found below same past one on among.

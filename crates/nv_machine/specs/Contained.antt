@@ -4,20 +4,19 @@ use Rattle.std.specs.Prelude.{◌≡◌, ◌≢◌, ℕ, ◌+◌, ◌<◌, ◌�
 use Rattle.std.specs.Bool.{⊤}
 use Rattle.std.specs.List.{Contains}
 use Rattle.nv_entry.specs.Completion.{cid_of as completed_cid}
-use Rattle.nv_laws_sound.specs.Consistent.{IsBetween, IsPlanned}
+use Rattle.nv_laws_sound.specs.Consistent.{IsBetween}
 use Rattle.nv_laws_sound.specs.Side.{Side}
 use Rattle.nv_machine.specs.Doing.{tag_at}
 use Rattle.nv_machine.specs.Effects.{Copy, Effect, Store}
 use Rattle.nv_machine.specs.Machine.{call, fetch, fetch_then, in_order, is_flying}
 use Rattle.nv_model.specs.Queue.{cqe_size, sqe_size}
-use Rattle.nv_model.specs.Transcript.{ReadDone}
 use Rattle.nv_world_model.specs.Area.{completion_slot, list_page, submission_slot}
 use Rattle.nv_world_model.specs.Contained.{guest_of_one}
 use Rattle.nv_world_model.specs.Geometry.{Geometry, Guest}
 use Rattle.nv_world_model.specs.Share.{Share}
 use Rattle.nv_world_model.specs.ShareArea.{share_entry}
 use Rattle.nv_world_model.specs.View.{guest_of_tag, in_image, own_tag}
-use Rattle.nv_world_model.specs.World.{Command, Flying, Lane, Queued, Tag, Taken}
+use Rattle.nv_world_model.specs.World.{Command, Flying, Lane, Queued, Tag}
 use Rattle.nv_world_model.specs.declared.event.Event.{Event}
 use Rattle.nv_world_model.specs.declared.event.Event.TheVariants as event
 
@@ -80,25 +79,22 @@ MayDo geometry s after None effect = ⊥
 MayDo geometry s after (Some number) (Store to bytes) = (i : ℕ) → i < length bytes → IsOwnOrNext geometry s after number (to + i)
 MayDo geometry s after (Some number) (Copy from to) = IsOwn geometry s number from × IsOwn geometry s number to
 
--- a slot of a lane's submission ring gets the physical entry of a share of a command of the owner's, under a tag that flies with that slot then
-pub record HasEntry (geometry : Geometry) (s after : Side) (number lane slot : ℕ) (effects : List Effect) : Type 0 where
-  pub tag : ℕ
-  pub command : Command
-  pub reads : List ReadDone
-  pub taken : tag_at s lane tag ≡ Some (Taken command reads)
-  pub whose : command.guest ≡ number
+-- a slot of a lane's submission ring gets the physical entry of a share of the owner's, under a tag that flies with that slot after the call
+pub record HasEntry (geometry : Geometry) (after : Side) (number lane slot : ℕ) (effects : List Effect) : Type 0 where
   pub given : Guest
   pub is : slice_get geometry.guests number ≡ Some given
+  pub command : Command
+  pub whose : command.guest ≡ number
   pub share : Share
-  pub planned : IsPlanned given command.entry share
+  pub tag : ℕ
+  pub flies : tag_at after lane tag ≡ Some (Flying command share (Queued slot))
   pub stored : Contains effects
       (Store (submission_slot geometry.mediator lane slot) (share_entry share given.namespace given command.entry geometry.mediator lane tag))
-  pub flies : tag_at after lane tag ≡ Some (Flying command share (Queued slot))
 
 -- what the tail of a lane's submission ring may pass, so that the physical controller takes it
-abbrev pub MayPass : Geometry → (s after : Side) → (number : Option ℕ) → (lane slot : ℕ) → List Effect → Type 0
-MayPass geometry s after None lane slot effects = ⊥
-MayPass geometry s after (Some number) lane slot effects = HasEntry geometry s after number lane slot effects
+abbrev pub MayPass : Geometry → (after : Side) → (number : Option ℕ) → (lane slot : ℕ) → List Effect → Type 0
+MayPass geometry after None lane slot effects = ⊥
+MayPass geometry after (Some number) lane slot effects = HasEntry geometry after number lane slot effects
 
 -- ---- the mediator's side
 
@@ -127,5 +123,5 @@ pub record IsContained (geometry : Geometry) (e : Event) (fetched : List ℕ) (s
   pub others : LeavesOthers (guest_for e fetched s) s (call geometry e fetched s).now.side
   pub rings : (lane tail behind slot : ℕ) → slice_get s.tails lane ≡ Some tail → slice_get (call geometry e fetched s).now.side.tails lane ≡ Some behind
       → IsBetween tail behind slot
-      → MayPass geometry s (call geometry e fetched s).now.side (guest_for e fetched s) lane slot (call geometry e fetched s).now.effects
+      → MayPass geometry (call geometry e fetched s).now.side (guest_for e fetched s) lane slot (call geometry e fetched s).now.effects
   pub flying : LeavesFlying e fetched s (call geometry e fetched s).now.side
