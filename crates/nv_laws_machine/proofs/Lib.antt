@@ -1,1 +1,3 @@
 pub mod Tied
+pub mod Reaps
+pub mod Contained

@@ -38,3 +38,6 @@ pub mod AlikeSides
 pub mod AlikeGroups
 pub mod AlikeActs
 pub mod AlikeCalls
+pub mod PlaceSides
+pub mod PlaceActs
+pub mod PlaceCalls
