@@ -7,3 +7,4 @@ pub mod Entries
 pub mod Rows
 pub mod Order
 pub mod Alike
+pub mod Unplaced

@@ -4,4 +4,5 @@ pub mod effects;
 pub mod entries;
 pub mod independence;
 pub mod order;
+pub mod places;
 pub mod worlds;
