@@ -1,7 +1,7 @@
 -- Worked examples: the mediator's side that calls start from, and what is seen of a call. Two guests have their memory in the host at 100000h and 200000h and
 -- 64 blocks of the disk from 1000 and 2000 on; the mediator's area begins at 400000h. So lane 0 has its submission ring at 400000h, its completion ring at
 -- 402000h, and of tag 0 the list page at 403000h and bounce pages from 404000h on; tag 1 has them at 424000h and from 425000h on (profile).
-use Rattle.std.specs.Prelude.{ℕ, false, List, [], ◌∷◌, ◌++◌, drop, map, replicate, slice_set, true, Option, Some, None}
+use Rattle.std.specs.Prelude.{ℕ, Bool, false, List, [], ◌∷◌, ◌++◌, drop, map, replicate, slice_set, true, Option, Some, None}
 use Rattle.nv_entry.specs.Status.{StatusField, status}
 use Rattle.nv_entry.specs.declared.opcode.IoOpcode.TheVariants as opcode
 use Rattle.nv_laws_sound.specs.Side.{Side}
@@ -9,6 +9,7 @@ use Rattle.nv_machine.specs.Alike.{IsAlike}
 use Rattle.nv_machine.specs.Effects.{Effect}
 use Rattle.nv_machine.specs.Entries.{IsOwnEntry}
 use Rattle.nv_machine.specs.Machine.{call, fetch, fetch_then}
+use Rattle.nv_machine.specs.Order.{IsInOrder}
 use Rattle.nv_mem.specs.declared.piece.Piece.TheVariants as piece
 use Rattle.nv_model.specs.Controller.{Controller, no_queues, opening}
 use Rattle.nv_model.specs.Judge.{MoveBlock}
@@ -178,3 +179,25 @@ head_put head l = record l { head = head }
 
 abbrev pub with_head : (head : ℕ) → Side → Side
 with_head head s = record s { lanes = map (head_put head) s.lanes }
+
+-- the same side in a pass with that phase tag
+abbrev pub phase_put : (phase : Bool) → Lane → Lane
+phase_put phase l = record l { phase = phase }
+
+abbrev pub with_phase : (phase : Bool) → Side → Side
+with_phase phase s = record s { lanes = map (phase_put phase) s.lanes }
+
+-- the same controller with an admin completion queue of two slots, of which one is written and not acknowledged
+abbrev pub full_admin : Side
+full_admin =
+    record one_admin {
+      controllers =
+          controller_with 16 0
+          ∷ record with_admin {
+            completion_queues = slice_set no_queues 0 (Some (record (new_completion 0x11000 2 (Some 0)) { tail = 1 }));
+          } ∷ [];
+    }
+
+-- effects of a Post for the second guest in order, in which there is no data
+abbrev pub IsCompletionAlone : List Effect → Type 0
+IsCompletionAlone effects = IsInOrder (λ e. ⊥) second_guest (controller_with 16 1) (Some (controller_with 16 1)) effects

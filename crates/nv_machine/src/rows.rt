@@ -8,7 +8,8 @@ ghost use Rattle.nv_machine.specs.Doing.{tag_at};
 ghost use Rattle.nv_machine.specs.Effects.{Copy, Effect, Store};
 ghost use Rattle.nv_machine.specs.Rows.{asked, asked_then, at_rest, completed_by, effects_of, ended_second, flying_second, full_second, identify_active};
 ghost use Rattle.nv_machine.specs.Rows.{last_dwords, namespace_one, odd_read, odd_share, odd_write, of_second, one_admin, page_read, reply_to, side_after};
-ghost use Rattle.nv_machine.specs.Rows.{AreAlikeToSecond, IsSeconds, entry_of, of_first, side_with, taken_first, taken_second, three_pages_read, with_head};
+ghost use Rattle.nv_machine.specs.Rows.{AreAlikeToSecond, IsSeconds, entry_of, of_first, IsCompletionAlone, full_admin, side_with, taken_first, taken_second};
+ghost use Rattle.nv_machine.specs.Rows.{three_pages_read, with_head, with_phase};
 ghost use Rattle.nv_model.specs.Rows.{block_range};
 ghost use Rattle.nv_world_model.specs.Rows.{controller_with, set_up};
 ghost use Rattle.nv_model.specs.declared.act.Act.TheVariants as act;
@@ -33,6 +34,12 @@ pub fn fetches()
     // With the phase tag of the pass before nothing more.
     ensures nothing_of_an_old_completion { asked_then (event.Reap 0) (1 ∷ 0 ∷ 0 ∷ 0 ∷ []) flying_second ≡ [] }
     ensures the_rest_of_a_new_one { asked_then (event.Reap 0) (1 ∷ 0 ∷ 1 ∷ 0 ∷ []) flying_second ≡ range_with_len 0x402000 12 }
+    // The same where the phase tag that is wanted is 0.
+    ensures nothing_in_another_pass { asked_then (event.Reap 0) (1 ∷ 0 ∷ 1 ∷ 0 ∷ []) (with_phase false flying_second) ≡ [] }
+    ensures the_rest_in_another_pass { asked_then (event.Reap 0) (1 ∷ 0 ∷ 0 ∷ 0 ∷ []) (with_phase false flying_second) ≡ range_with_len 0x402000 12 }
+    // A Take is of an I/O queue; and no admin command is fetched whose completion would be held.
+    ensures no_take_of_admin_commands { asked (event.Take 1 0 0) one_admin ≡ [] }
+    ensures no_admin_command { asked (event.Admin 1) full_admin ≡ [] }
     ensures an_admin_command { asked (event.Admin 1) one_admin ≡ range_with_len 0x210000 64 }
     ensures no_submit { asked (event.Submit 0 0) (taken_first page_read) ≡ [] }
     ensures no_post { asked (event.Post 0 1) (ended_second 16 (status 0 0 false)) ≡ [] }
@@ -58,6 +65,11 @@ pub fn submits()
         ≡ Store 0x424000 (0x00 ∷ 0x40 ∷ 0x20 ∷ replicate 5 0 ++ 0x00 ∷ 0x50 ∷ 0x20 ∷ replicate 5 0)
         ∷ Store 0x400000 (2 ∷ 0 ∷ 1 ∷ 0 ∷ namespace_one ++ 0x00 ∷ 0x30 ∷ 0x20 ∷ replicate 5 0 ++ 0x00 ∷ 0x40 ∷ 0x42 ∷ replicate 5 0
         ++ 0xd5 ∷ 0x07 ∷ replicate 6 0 ++ 23 ∷ 0 ∷ 0 ∷ 0 ∷ last_dwords) ∷ [] }
+    // A bounced Read: nothing is copied yet.
+    ensures a_bounced_read { effects_of (event.Submit 0 1) [] (taken_second odd_read)
+        ≡ Store 0x424000 []
+        ∷ Store 0x400000 (2 ∷ 0 ∷ 1 ∷ 0 ∷ namespace_one ++ 0x00 ∷ 0x50 ∷ 0x42 ∷ replicate 5 0 ++ replicate 8 0
+        ++ 0xd5 ∷ 0x07 ∷ replicate 6 0 ++ replicate 4 0 ++ last_dwords) ∷ [] }
     // A bounced Write: its 512 bytes are copied to the tag's first bounce page before its entry, which names that page, is stored.
     ensures a_bounced_write { effects_of (event.Submit 0 1) [] (taken_second odd_write)
         ≡ Store 0x424000 [] ∷ map (λ n. Copy (0x203002 + n) (0x425000 + n)) (range_with_len 0 512)
@@ -74,6 +86,11 @@ pub fn reaps()
     ensures whatever_the_others_are { side_after (event.Reap 0) (completed_by 1 0 1) flying_second ≡ flying_second }
     ensures a_completion { reply_to (event.Reap 0) (completed_by 1 1 1) flying_second ≡ Some reply.Done }
     ensures ends_its_tag { tag_at (side_after (event.Reap 0) (completed_by 1 1 1) flying_second) 0 1 ≡ Some (Ended (of_second odd_read 1) (status 0 0 false) (Some odd_share)) }
+    // A media error, 81h of type 2, is passed on; any other failure, as 04h of type 0, is an internal error, 06h.
+    ensures a_media_error { tag_at (side_after (event.Reap 0) (1 ∷ 0 ∷ 3 ∷ 5 ∷ replicate 8 0 ++ 1 ∷ 0 ∷ 1 ∷ 0 ∷ []) flying_second) 0 1
+        ≡ Some (Ended (of_second odd_read 1) (status 2 0x81 false) (Some odd_share)) }
+    ensures another_error { tag_at (side_after (event.Reap 0) (1 ∷ 0 ∷ 9 ∷ 0 ∷ replicate 8 0 ++ 1 ∷ 0 ∷ 1 ∷ 0 ∷ []) flying_second) 0 1
+        ≡ Some (Ended (of_second odd_read 1) (status 0 6 false) (Some odd_share)) }
     // An identifier of a free tag, of no tag, and of another queue: stray, and nothing changes.
     ensures a_free_identifier { reply_to (event.Reap 0) (completed_by 0 1 1) flying_second ≡ None }
     ensures a_free_identifier_changes_nothing { side_after (event.Reap 0) (completed_by 0 1 1) flying_second ≡ flying_second }
@@ -181,4 +198,13 @@ pub fn addresses()
     ensures anothers_may_not { LeavesOthers (Some 0) flying_second (side_with 16 (Free ∷ Free ∷ [])) → ⊥ }
     ensures no_tag_may_become_anothers { LeavesOthers (Some 1) flying_second (side_with 16 (Taken (of_first odd_read) [] ∷ Free ∷ [])) → ⊥ }
     ensures anothers_controller_may_not { LeavesOthers (Some 1) at_rest (record at_rest { controllers = controller_with 16 0 ∷ controller_with 16 1 ∷ [] }) → ⊥ }
+{}
+
+/// Effects that are no completion in order, for the second guest.
+#[tactic(none)]
+pub fn orders()
+    ensures the_phase_tag_first { IsCompletionAlone (Store 0x21200c (7 ∷ 0 ∷ 1 ∷ 0 ∷ []) ∷ Store 0x212000 (replicate 12 0) ∷ []) → ⊥ }
+    ensures all_at_once { IsCompletionAlone (Store 0x212000 (replicate 12 0 ++ 7 ∷ 0 ∷ 1 ∷ 0 ∷ []) ∷ []) → ⊥ }
+    ensures an_effect_behind_it { IsCompletionAlone (Store 0x212000 (replicate 12 0) ∷ Store 0x21200c (7 ∷ 0 ∷ 1 ∷ 0 ∷ []) ∷ Copy 0x425000 0x203002 ∷ []) → ⊥ }
+    ensures another_effect_before_it { IsCompletionAlone (Copy 0x425000 0x203002 ∷ Store 0x212000 (replicate 12 0) ∷ Store 0x21200c (7 ∷ 0 ∷ 1 ∷ 0 ∷ []) ∷ []) → ⊥ }
 {}
