@@ -1,9 +1,9 @@
 //! Worked examples of the machine's calls, computed.
 
-ghost use Rattle.std.specs.Prelude.{◌≡◌, ℕ, ◌+◌, [], ◌∷◌, ◌++◌, false, map, replicate, slice_get, true, Some, None};
+ghost use Rattle.std.specs.Prelude.{◌≡◌, ℕ, ◌+◌, List, [], ◌∷◌, ◌++◌, false, map, replicate, slice_get, true, Some, None};
 ghost use Rattle.std.specs.List.{range_with_len};
 ghost use Rattle.nv_entry.specs.Status.{status};
-ghost use Rattle.nv_machine.specs.Contained.{IsOwn, LeavesOthers, MayDo, MayFetch};
+ghost use Rattle.nv_machine.specs.Contained.{IsOwn, LeavesFlying, LeavesOthers, MayDo, MayFetch, MayPass};
 ghost use Rattle.nv_machine.specs.Doing.{tag_at};
 ghost use Rattle.nv_machine.specs.Effects.{Copy, Effect, Store};
 ghost use Rattle.nv_machine.specs.Rows.{asked, asked_then, at_rest, completed_by, effects_of, ended_second, flying_second, full_second, identify_active};
@@ -197,6 +197,13 @@ pub fn addresses()
     ensures its_tag_may_change { LeavesOthers (Some 1) flying_second (side_with 16 (Free ∷ Free ∷ [])) }
     ensures anothers_may_not { LeavesOthers (Some 0) flying_second (side_with 16 (Free ∷ Free ∷ [])) → ⊥ }
     ensures no_tag_may_become_anothers { LeavesOthers (Some 1) flying_second (side_with 16 (Taken (of_first odd_read) [] ∷ Free ∷ [])) → ⊥ }
+    // What is with the physical controller stays there without its completion, whatever a Post or another's completion does.
+    ensures a_post_frees_it_not { LeavesFlying (event.Post 0 1) [] flying_second (side_with 16 (Free ∷ Free ∷ [])) → ⊥ }
+    ensures nor_does_another_completion { LeavesFlying (event.Reap 0) (completed_by 0 1 1) flying_second (side_with 16 (Free ∷ Free ∷ [])) → ⊥ }
+    // The ring's tail passes no slot for nobody, none for the first guest, and none but the one that the second guest's command flies with.
+    ensures no_slot_for_nobody { MayPass set_up flying_second None 0 0 [] → ⊥ }
+    ensures no_slot_for_the_neighbour { (effects : List Effect) → MayPass set_up flying_second (Some 0) 0 0 effects → ⊥ }
+    ensures no_other_slot { (effects : List Effect) → MayPass set_up flying_second (Some 1) 0 1 effects → ⊥ }
     ensures anothers_controller_may_not { LeavesOthers (Some 1) at_rest (record at_rest { controllers = controller_with 16 0 ∷ controller_with 16 1 ∷ [] }) → ⊥ }
 {}
 

@@ -14,7 +14,7 @@ use Rattle.nv_world_model.specs.Area.{ring_size}
 use Rattle.nv_world_model.specs.Geometry.{Guest}
 use Rattle.nv_world_model.specs.Rows.{guest_at, set_up}
 use Rattle.nv_world_model.specs.View.{guest_of_tag, in_image, own_tag}
-use Rattle.nv_world_model.specs.World.{Free, Lane, Tag, Taken}
+use Rattle.nv_world_model.specs.World.{Flying, Free, Lane, Queued, Tag, Taken}
 use Rattle.nv_entry.specs.Layout.{number_at, dword, qword, bits, bytes_of_dwords}
 use Rattle.nv_entry.specs.Completion.{completion}
 use Rattle.nv_mem.specs.GuestMap.{everywhere}
@@ -87,6 +87,7 @@ not-next at outside (NextSlot lane tail behind slot tails others between low hig
 abbrev opcode_in : Option Tag → ℕ
 opcode_in (Some (Taken command reads)) = slice_index_or command.entry 0 0
 opcode_in None = 7
+opcode_in (Some (Flying command share standing)) = 8
 opcode_in _ = 9
 
 abbrev tail_of : Option SubmissionQueue → ℕ
@@ -120,6 +121,19 @@ apart-first same = cc
 
 apart-second : ◌≢◌ {A = Option ℕ} (Some 0) (Some 1)
 apart-second same = cc
+
+-- the slot that the one command flies with
+abbrev slot_in : Option Tag → ℕ
+slot_in (Some (Flying command share (Queued slot))) = slot
+slot_in _ = 7
+
+one-slot : (lane tag : ℕ) (t : Tag) (number : ℕ) → tag_at flying_second lane tag ≡ Some t → guest_of_tag t ≡ Some number → slot_in (Some t) ≡ 0
+one-slot lane tag t number there whose =
+    let is = one-tag lane tag t number there whose in
+    let first : lane ≡ 0 = is.0 in
+    let second : tag ≡ 1 = is.1.0 in
+    let here : tag_at flying_second 0 1 ≡ Some t = ap (λ n. tag_at flying_second n 1) (sym first) ∙ ap (tag_at flying_second lane) (sym second) ∙ there in
+    sym (ap slot_in here)
 
 pub returns-clause-its_memory : goal.returns-clause-its_memory
 unfolding number_at dword qword bits bytes_of_dwords completion everywhere addresses bytes_from gathered image scattered stored in_memory and_then
@@ -292,7 +306,7 @@ unfolding number_at dword qword bits bytes_of_dwords completion everywhere addre
     first_read in_transcript read_array read_sgl read_entries read_source ranges_in move_units clear_units range_units judge opening register
     reg_write doorbell front took post ran_out admin_command structure hosts_of fit_behind built plan_over physical_entry claimed tags_put called
     fetch fetch_then handed_on statuses_of
-returns-clause-anothers_may_not c leaves = (let bad : ◌≡◌ {A = ℕ} 7 9 = ap opcode_in (leaves.tags 1 0 1 apart-second) in absurd (omega arith))
+returns-clause-anothers_may_not c leaves = (let bad : ◌≡◌ {A = ℕ} 7 8 = ap opcode_in (leaves.tags 1 0 1 apart-second) in absurd (omega arith))
 
 pub returns-clause-no_tag_may_become_anothers : goal.returns-clause-no_tag_may_become_anothers
 unfolding number_at dword qword bits bytes_of_dwords completion everywhere addresses bytes_from gathered image scattered stored in_memory and_then
@@ -307,3 +321,42 @@ unfolding number_at dword qword bits bytes_of_dwords completion everywhere addre
     reg_write doorbell front took post ran_out admin_command structure hosts_of fit_behind built plan_over physical_entry claimed tags_put called
     fetch fetch_then handed_on statuses_of
 returns-clause-anothers_controller_may_not c leaves = (let bad : ◌≡◌ {A = ℕ} 0 1 = ap first_tail (leaves.controllers 0 apart-first) in absurd (omega arith))
+
+pub returns-clause-a_post_frees_it_not : goal.returns-clause-a_post_frees_it_not
+unfolding number_at dword qword bits bytes_of_dwords completion everywhere addresses bytes_from gathered image scattered stored in_memory and_then
+    first_read in_transcript read_array read_sgl read_entries read_source ranges_in move_units clear_units range_units judge opening register
+    reg_write doorbell front took post ran_out admin_command structure hosts_of fit_behind built plan_over physical_entry claimed tags_put called
+    fetch fetch_then handed_on statuses_of
+returns-clause-a_post_frees_it_not c leaves = (let bad : ◌≡◌ {A = ℕ} 9 8 = ap opcode_in (leaves 0 1 refl refl) in absurd (omega arith))
+
+pub returns-clause-nor_does_another_completion : goal.returns-clause-nor_does_another_completion
+unfolding number_at dword qword bits bytes_of_dwords completion everywhere addresses bytes_from gathered image scattered stored in_memory and_then
+    first_read in_transcript read_array read_sgl read_entries read_source ranges_in move_units clear_units range_units judge opening register
+    reg_write doorbell front took post ran_out admin_command structure hosts_of fit_behind built plan_over physical_entry claimed tags_put called
+    fetch fetch_then handed_on statuses_of
+returns-clause-nor_does_another_completion c leaves = (let bad : ◌≡◌ {A = ℕ} 9 8 = ap opcode_in (leaves 0 1 refl refl) in absurd (omega arith))
+
+pub returns-clause-no_slot_for_nobody : goal.returns-clause-no_slot_for_nobody
+unfolding number_at dword qword bits bytes_of_dwords completion everywhere addresses bytes_from gathered image scattered stored in_memory and_then
+    first_read in_transcript read_array read_sgl read_entries read_source ranges_in move_units clear_units range_units judge opening register
+    reg_write doorbell front took post ran_out admin_command structure hosts_of fit_behind built plan_over physical_entry claimed tags_put called
+    fetch fetch_then handed_on statuses_of
+returns-clause-no_slot_for_nobody c may = may
+
+pub returns-clause-no_slot_for_the_neighbour : goal.returns-clause-no_slot_for_the_neighbour
+unfolding number_at dword qword bits bytes_of_dwords completion everywhere addresses bytes_from gathered image scattered stored in_memory and_then
+    first_read in_transcript read_array read_sgl read_entries read_source ranges_in move_units clear_units range_units judge opening register
+    reg_write doorbell front took post ran_out admin_command structure hosts_of fit_behind built plan_over physical_entry claimed tags_put called
+    fetch fetch_then handed_on statuses_of
+returns-clause-no_slot_for_the_neighbour c effects may =
+    (let is = one-tag 0 may.tag (Flying may.command may.share (Queued 0)) may.command.guest may.flies refl in
+    let one = is.1.1 in
+    let none = may.whose in absurd (omega (arith, one, none)))
+
+pub returns-clause-no_other_slot : goal.returns-clause-no_other_slot
+unfolding number_at dword qword bits bytes_of_dwords completion everywhere addresses bytes_from gathered image scattered stored in_memory and_then
+    first_read in_transcript read_array read_sgl read_entries read_source ranges_in move_units clear_units range_units judge opening register
+    reg_write doorbell front took post ran_out admin_command structure hosts_of fit_behind built plan_over physical_entry claimed tags_put called
+    fetch fetch_then handed_on statuses_of
+returns-clause-no_other_slot c effects may =
+    (let bad : ◌≡◌ {A = ℕ} 1 0 = one-slot 0 may.tag (Flying may.command may.share (Queued 1)) may.command.guest may.flies refl in absurd (omega arith))
