@@ -1,7 +1,7 @@
 #!/usr/bin/env python3
 """try.py LIST [NAME..]: tries wrong definitions or bugs, one by one, in the repository that this file stands in, which it changes
-and puts back; so run it in a clone. LIST is LISTS, WORLD, MORE_LISTS, MORE_WORLD, FRONT_WORDS or
-FRONT_STATEMENTS (definitions.py), ONCE, WORKERS, PRINT, RUN_SCRIPT,
+and puts back; so run it in a clone. LIST is LISTS, WORLD, MORE_LISTS, MORE_WORLD, FRONT_WORDS,
+FRONT_STATEMENTS or MACHINE (definitions.py), ONCE, WORKERS, PRINT, RUN_SCRIPT,
 ONCE_SCRIPT_MORE or REPLAY_SCRIPT (bugs.py; at_once.py asks the proofs alone, and of a whole list in one check).
 
 A definition is tried against the computed examples, lowest crate first; a bug against the proofs of its crate and, where these let it
@@ -27,6 +27,7 @@ TRIALS = {
     "MORE_WORLD": (definitions.MORE_WORLD, ALL[1:]),
     "FRONT_WORDS": (definitions.FRONT_WORDS, HOST),
     "FRONT_STATEMENTS": (definitions.FRONT_STATEMENTS, HOST),
+    "MACHINE": (definitions.MACHINE, [("nv_machine", ["check", "--only", "rows"]), ("nv_machine", ["check"])]),
     "ONCE": (bugs.ONCE, [("nv_commands", ["check"]), ("nv_checks_program", ["try", "--test"])]),
     "WORKERS": (bugs.WORKERS, [("nv_threads", ["check"]), ("nv_checks_program", ["try", "--test"])]),
     "PRINT": (bugs.PRINT, [("nv_print", ["check"]), ("nv_checks_program", ["try", "--test"])]),

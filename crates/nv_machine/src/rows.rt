@@ -3,7 +3,7 @@
 ghost use Rattle.std.specs.Prelude.{◌≡◌, ℕ, ◌+◌, List, [], ◌∷◌, ◌++◌, false, map, replicate, slice_get, true, Some, None};
 ghost use Rattle.std.specs.List.{range_with_len};
 ghost use Rattle.nv_entry.specs.Status.{status};
-ghost use Rattle.nv_machine.specs.Contained.{IsOwn, LeavesFlying, LeavesOthers, MayDo, MayFetch, MayPass};
+ghost use Rattle.nv_machine.specs.Contained.{IsOwn, LeavesFlying, LeavesOthers, MayDo, MayFetch, MayPass, guest_for};
 ghost use Rattle.nv_machine.specs.Doing.{tag_at};
 ghost use Rattle.nv_machine.specs.Effects.{Copy, Effect, Store};
 ghost use Rattle.nv_machine.specs.Rows.{asked, asked_then, at_rest, completed_by, effects_of, ended_second, flying_second, full_second, identify_active};
@@ -214,4 +214,21 @@ pub fn orders()
     ensures all_at_once { IsCompletionAlone (Store 0x212000 (replicate 12 0 ++ 7 ∷ 0 ∷ 1 ∷ 0 ∷ []) ∷ []) → ⊥ }
     ensures an_effect_behind_it { IsCompletionAlone (Store 0x212000 (replicate 12 0) ∷ Store 0x21200c (7 ∷ 0 ∷ 1 ∷ 0 ∷ []) ∷ Copy 0x425000 0x203002 ∷ []) → ⊥ }
     ensures another_effect_before_it { IsCompletionAlone (Copy 0x425000 0x203002 ∷ Store 0x212000 (replicate 12 0) ∷ Store 0x21200c (7 ∷ 0 ∷ 1 ∷ 0 ∷ []) ∷ []) → ⊥ }
+{}
+
+/// Whose a call is.
+#[tactic(none)]
+pub fn owners()
+    ensures of_an_act { guest_for (event.Guest 1 (act.Load 0x3000 8)) [] at_rest ≡ Some 1 }
+    ensures of_an_admin_command { guest_for (event.Admin 1) [] one_admin ≡ Some 1 }
+    ensures of_a_take { guest_for (event.Take 1 1 0) page_read at_rest ≡ Some 1 }
+    // Of a call that names a tag it is the guest of the tag's command, and nobody's where the tag is free.
+    ensures of_a_list { guest_for (event.List 0 0 0x3000 8) [] (taken_first page_read) ≡ Some 1 }
+    ensures of_a_submit { guest_for (event.Submit 0 0) [] (taken_first page_read) ≡ Some 1 }
+    ensures of_one_given_up { guest_for (event.GiveUp 0 0) [] (taken_first page_read) ≡ Some 1 }
+    ensures of_a_post { guest_for (event.Post 0 1) [] (ended_second 16 (status 0 0 false)) ≡ Some 1 }
+    ensures of_a_free_tag { guest_for (event.Submit 0 1) [] (taken_first page_read) ≡ None }
+    // Of a Reap it is the guest of the tag that the completion names.
+    ensures of_a_reap { guest_for (event.Reap 0) (completed_by 1 1 1) flying_second ≡ Some 1 }
+    ensures of_a_reap_of_a_free_tag { guest_for (event.Reap 0) (completed_by 0 1 1) flying_second ≡ None }
 {}
