@@ -1,5 +1,5 @@
 -- What calls for a guest do comes to the same in sides that are alike to it.
-use Rattle.std.proofs.Common.{◌≡◌, ℕ, ◌+◌, Bool, true, false, cond, ◌&&◌, ◌==◌, replicate, List, [], ◌∷◌, ◌++◌, All, slice_get, take, Option, Some, None}
+use Rattle.std.proofs.Common.{◌≡◌, ℕ, Bool, true, false, cond, ◌&&◌, ◌==◌, replicate, List, [], ◌∷◌, ◌++◌, All, slice_get, take, Option, Some, None}
 use Rattle.std.proofs.Common.{refl, sym, ap, subst}
 use Rattle.nv_entry.specs.Completion.{cid_of as completed_cid, phase_of, sqid_of, status_of}
 use Rattle.nv_entry.specs.Status.{StatusField, bit}
@@ -36,8 +36,6 @@ use Rattle.nv_world_model.specs.ShareArea.{is_no_command}
 use Rattle.nv_world_model.specs.Step.{completion_read, deciding, is_io_queue}
 use Rattle.nv_world_model.specs.View.{LaneNumbers, is_tag_of}
 use Rattle.nv_world_model.specs.World.{Command, Ended, Flying, Free, Lane, Tag, Taken}
-use Rattle.nv_world_model.specs.declared.event.Event.{Event}
-use Rattle.nv_world_model.specs.declared.event.Event.TheVariants as event
 
 -- the number of an owner
 pub owner-number : (number : ℕ) (g : _) (c : _) (o : Owner) → owner_by number g c ≡ Some o → o.number ≡ number
@@ -109,7 +107,8 @@ module _ (number : ℕ) where
       both-controlled None = told-only reply.Ignored
       both-controlled (Some c) = same-replied number reply.Done _ _ (put c m n same)
 
-      pub both-register : (value : Option ℕ) → Alike (for_one value m (λ value. replied (reply.Bytes (number_bytes 4 value)) m)) (for_one value n (λ value. replied (reply.Bytes (number_bytes 4 value)) n))
+      pub both-register : (value : Option ℕ) → Alike (for_one value m (λ value. replied (reply.Bytes (number_bytes 4 value)) m))
+          (for_one value n (λ value. replied (reply.Bytes (number_bytes 4 value)) n))
       both-register None = told-only reply.Ignored
       both-register (Some value) = told-only _
 
@@ -222,7 +221,8 @@ module _ (number : ℕ) where
             (submitted_on (slice_get ts lane) mediator lane tag command share o n)) same.sides.tails
             (both-submitted (slice_get m.side.tails lane) tag share m n same)
 
-        by : (b : Bool) → AreSame number (cond b (tag_put lane tag (Ended command (done_with Success) (Some share)) m) (submitted_on (slice_get m.side.tails lane) mediator lane tag command share o m))
+        by : (b : Bool)
+            → AreSame number (cond b (tag_put lane tag (Ended command (done_with Success) (Some share)) m) (submitted_on (slice_get m.side.tails lane) mediator lane tag command share o m))
             (cond b (tag_put lane tag (Ended command (done_with Success) (Some share)) n) (submitted_on (slice_get n.side.tails lane) mediator lane tag command share o n))
         by true = same-tag number lane tag _ m n same
         by false = tails

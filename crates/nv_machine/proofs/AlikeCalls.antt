@@ -18,9 +18,6 @@ use Rattle.nv_machine.specs.Machine.{submit_by}
 use Rattle.nv_machine.proofs.AlikeGroups.{group-same, is-own, statuses-alike, tag-same}
 use Rattle.nv_machine.proofs.AlikeSides.{AreFound, AreSame, BothLanes, NoLane, lanes-found, same-replied, same-tag}
 use Rattle.nv_model.specs.Transcript.{ReadDone}
-use Rattle.nv_model.specs.declared.act.Act.{Act}
-use Rattle.nv_model.specs.declared.act.Act.TheVariants as act
-use Rattle.nv_model.specs.declared.reply.Reply.{Reply}
 use Rattle.nv_model.specs.declared.reply.Reply.TheVariants as reply
 use Rattle.nv_world_model.specs.Contained.{guest_of_one}
 use Rattle.nv_world_model.specs.Geometry.{Geometry}

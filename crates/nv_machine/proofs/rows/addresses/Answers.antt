@@ -1,16 +1,14 @@
-use Rattle.std.proofs.Common.{◌≡◌, ◌⊎◌, ℕ, zero, suc, ◌+◌, ◌<◌, ◌≤◌, Bool, true, false, List, [], ◌∷◌, Option, Some, None, ap, arith, cond, ◌==◌, inl, inr, refl, slice_get, sym, subst, ◌∙◌}
+use Rattle.std.proofs.Common.{◌≡◌, ◌⊎◌, ℕ, zero, suc, ◌<◌, ◌≤◌, true, false, [], ◌∷◌, Option, Some, None, ap, arith, cond, ◌==◌, inl, inr, refl, slice_get, sym, subst, ◌∙◌}
 use Rattle.std.specs.Prelude.{◌≢◌}
 use Rattle.std.specs.List.{slice_index_or}
 use Rattle.std.proofs.lemmas.Bool.{ne_eqb}
 use Rattle.nv_laws_sound.proofs.Lists.{slice_get-replicate, some-same}
 use Rattle.nv_laws_sound.specs.Consistent.{IsBetween}
-use Rattle.nv_laws_sound.specs.Side.{Side}
-use Rattle.nv_machine.specs.Contained.{IsOwn, IsOwnOrNext, LeavesOthers, NextSlot, OfMemory, OfPages, Own}
+use Rattle.nv_machine.specs.Contained.{IsOwn, IsOwnOrNext, NextSlot, OfMemory, OfPages, Own}
 use Rattle.nv_machine.specs.Doing.{tag_at}
-use Rattle.nv_machine.specs.Rows.{at_rest, flying_second, odd_read, of_first, side_with}
+use Rattle.nv_machine.specs.Rows.{flying_second, side_with}
 use Rattle.nv_model.specs.Controller.{Controller}
-use Rattle.nv_model.specs.Queue.{SubmissionQueue, ahead}
-use Rattle.nv_world_model.specs.Area.{ring_size}
+use Rattle.nv_model.specs.Queue.{SubmissionQueue}
 use Rattle.nv_world_model.specs.Geometry.{Guest}
 use Rattle.nv_world_model.specs.Rows.{guest_at, set_up}
 use Rattle.nv_world_model.specs.View.{guest_of_tag, in_image, own_tag}
@@ -112,7 +110,6 @@ others-none other zero (suc zero) apart = none-of other apart
     none-of other apart =
         let differ : (1 == other) ≡ false = ne_eqb 1 other (λ same. apart (ap (λ (n : ℕ). Some n) same)) in
         sym (ap (λ b. cond b (tag_at flying_second 0 1) None) differ)
-
 others-none other zero (suc (suc tag)) apart = refl
 others-none other (suc lane) tag apart = refl
 

@@ -1,4 +1,4 @@
-use Rattle.std.proofs.Common.{◌≡◌, ◌⊎◌, ℕ, ◌<◌, ◌≤◌, Bool, true, false, List, [], ◌∷◌, All, arith, inl, inr, refl, subst, take}
+use Rattle.std.proofs.Common.{◌≡◌, ◌⊎◌, ℕ, ◌<◌, ◌≤◌, true, false, List, [], ◌∷◌, All, arith, inl, inr, refl, subst, take}
 use Rattle.std.proofs.lemmas.List.Elements.{All-head}
 use Rattle.nv_entry.specs.declared.opcode.IoOpcode.TheVariants as opcode
 use Rattle.nv_machine.specs.Entries.{IsOwnByte, NamesOwn}

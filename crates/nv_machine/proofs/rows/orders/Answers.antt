@@ -1,8 +1,7 @@
 use Rattle.std.proofs.Common.{◌≡◌, ℕ, ◌+◌, List, [], ◌∷◌, ◌++◌, All, arith, drop, refl, replicate, take}
 use Rattle.std.proofs.lemmas.List.Elements.{All-head}
 use Rattle.nv_machine.specs.Effects.{Copy, Effect, Store}
-use Rattle.nv_machine.specs.Order.{EndsWith, IsInOrder, Posts, PostsNone}
-use Rattle.nv_machine.specs.Rows.{IsCompletionAlone}
+use Rattle.nv_machine.specs.Order.{Posts, PostsNone}
 use Rattle.nv_machine.proofs.rows.orders.Goals as goal
 
 -- an effect is no data where there is none

@@ -1,12 +1,10 @@
-use Rattle.std.proofs.Common.{◌≡◌, ℕ, zero, suc, Bool, true, false, List, [], ◌∷◌, Option, Some, None, ap, arith, refl, sym, ◌∙◌}
-use Rattle.nv_laws_sound.specs.Side.{Side}
-use Rattle.nv_machine.specs.Alike.{IsAlike}
+use Rattle.std.proofs.Common.{◌≡◌, ℕ, zero, suc, Bool, true, false, List, [], ◌∷◌, Option, Some, None, ap, arith, refl, sym}
 use Rattle.nv_machine.specs.Doing.{tag_at}
-use Rattle.nv_machine.specs.Rows.{at_rest, odd_read, odd_write, of_first, side_with}
+use Rattle.nv_machine.specs.Rows.{odd_read, odd_write, of_first, side_with}
 use Rattle.nv_model.specs.Controller.{Controller}
 use Rattle.nv_model.specs.Queue.{SubmissionQueue}
 use Rattle.nv_world_model.specs.View.{LaneNumbers, own_tag}
-use Rattle.nv_world_model.specs.World.{Free, Lane, Tag, Taken}
+use Rattle.nv_world_model.specs.World.{Free, Tag, Taken}
 use Rattle.std.specs.List.{slice_index_or}
 use Rattle.nv_entry.specs.Layout.{number_at, dword, qword, bits, bytes_of_dwords}
 use Rattle.nv_entry.specs.Completion.{completion}
