@@ -37,3 +37,4 @@ pub mod AlikeCalls
 pub mod PlaceSides
 pub mod PlaceActs
 pub mod PlaceCalls
+pub mod PlaceKept

@@ -1,8 +1,9 @@
 //! The machine does not ask where parts are that were handed on.
 
 ghost use Rattle.std.specs.Prelude.{◌≡◌, ℕ, List};
-ghost use Rattle.nv_laws_sound.specs.Side.{Side};
-ghost use Rattle.nv_machine.specs.Contained.{guest_for};
+ghost use Rattle.nv_laws_sound.specs.Side.{IsKept, Side};
+ghost use Rattle.nv_machine.specs.Contained.{AreFetched, IsFetched, guest_for};
+ghost use Rattle.nv_machine.specs.InWorld.{AreOnPages};
 ghost use Rattle.nv_machine.specs.Machine.{call, fetch, fetch_then};
 ghost use Rattle.nv_machine.specs.Unplaced.{AreSameButPlaces, ComeToSameButPlaces, unplaced_side};
 ghost use Rattle.nv_world_model.specs.Geometry.{Geometry};
@@ -22,4 +23,15 @@ pub fn a_call_does_not_ask_where_parts_are()
     ensures guests { (e : Event) (fetched : List ℕ) (s z : Side) → AreSameButPlaces s z → guest_for e fetched s ≡ guest_for e fetched z }
     ensures calls { (geometry : Geometry) (e : Event) (fetched : List ℕ) (s z : Side) → AreSameButPlaces s z →
         ComeToSameButPlaces (call geometry e fetched s) (call geometry e fetched z) }
+{}
+
+/// A side keeps what the mediator's side keeps where one does that is the same but for places, and for the same calls as many bytes are asked for.
+pub fn what_is_kept_does_not_ask_where_parts_are()
+    ensures kept { (geometry : Geometry) (s z : Side) → AreSameButPlaces s z → IsKept geometry z → IsKept geometry s }
+    ensures pages { (s z : Side) → AreSameButPlaces s z → AreOnPages z.controllers → AreOnPages s.controllers }
+    ensures fetched { (geometry : Geometry) (e : Event) (fetched : List ℕ) (s z : Side) → AreSameButPlaces s z → IsFetched geometry e z fetched →
+        IsFetched geometry e s fetched }
+    ensures all_fetched { (geometry : Geometry) (calls : List (Event × List ℕ)) (s z : Side) → AreSameButPlaces s z → AreFetched geometry calls z →
+        AreFetched geometry calls s }
+    ensures back { (s z : Side) → AreSameButPlaces s z → AreSameButPlaces z s }
 {}
