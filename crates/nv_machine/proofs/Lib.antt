@@ -38,3 +38,5 @@ pub mod PlaceSides
 pub mod PlaceActs
 pub mod PlaceCalls
 pub mod PlaceKept
+pub mod PlacePuts
+pub mod PlaceContained

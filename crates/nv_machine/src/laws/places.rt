@@ -2,7 +2,7 @@
 
 ghost use Rattle.std.specs.Prelude.{◌≡◌, ℕ, List};
 ghost use Rattle.nv_laws_sound.specs.Side.{IsKept, Side};
-ghost use Rattle.nv_machine.specs.Contained.{AreFetched, IsFetched, guest_for};
+ghost use Rattle.nv_machine.specs.Contained.{AreFetched, IsContained, IsFetched, guest_for};
 ghost use Rattle.nv_machine.specs.InWorld.{AreOnPages};
 ghost use Rattle.nv_machine.specs.Machine.{call, fetch, fetch_then};
 ghost use Rattle.nv_machine.specs.Unplaced.{AreSameButPlaces, ComeToSameButPlaces, unplaced_side};
@@ -34,4 +34,10 @@ pub fn what_is_kept_does_not_ask_where_parts_are()
     ensures all_fetched { (geometry : Geometry) (calls : List (Event × List ℕ)) (s z : Side) → AreSameButPlaces s z → AreFetched geometry calls z →
         AreFetched geometry calls s }
     ensures back { (s z : Side) → AreSameButPlaces s z → AreSameButPlaces z s }
+{}
+
+/// A call that is contained in a side, whatever that side is, is contained in each that is the same but for places.
+pub fn containment_does_not_ask_where_parts_are()
+    ensures { (geometry : Geometry) (e : Event) (fetched : List ℕ) (s z : Side) → AreSameButPlaces s z → IsContained geometry e fetched s →
+        IsContained geometry e fetched z }
 {}
