@@ -1,5 +1,5 @@
 -- A call that is contained is contained in a side that is the same but for the places of parts.
-use Rattle.std.proofs.Common.{◌≡◌, ◌≢◌, ℕ, Bool, true, false, List, length, slice_get, take, All, Option, Some, None, refl, sym, ap, ◌∙◌, subst}
+use Rattle.std.proofs.Common.{◌≡◌, ℕ, Bool, true, false, List, length, slice_get, take, All, Option, Some, None, refl, sym, ap, ◌∙◌, subst}
 use Rattle.std.specs.Option.{option_map}
 use Rattle.std.proofs.lemmas.List.Elements.{All-weaker}
 use Rattle.nv_laws_sound.specs.Side.{Side}
@@ -11,7 +11,7 @@ use Rattle.nv_machine.specs.Machine.{call, fetch, fetch_then}
 use Rattle.nv_machine.specs.Unplaced.{AreSameButPlaces}
 use Rattle.nv_machine.proofs.PlaceCalls.{call-same, fetch-same, for-same, guest-same, guest-unplaced, then-same}
 use Rattle.nv_machine.proofs.PlaceKept.{lane-same}
-use Rattle.nv_machine.proofs.PlacePuts.{AsBefore, NotTheirs, Puts, Stands, call-puts}
+use Rattle.nv_machine.proofs.PlacePuts.{AsBefore, NotTheirs, Stands, call-puts}
 use Rattle.nv_machine.proofs.PlaceSides.{tag-same, tags-told}
 use Rattle.nv_model.specs.Controller.{Controller}
 use Rattle.nv_world_model.specs.Contained.{guest_of_one}

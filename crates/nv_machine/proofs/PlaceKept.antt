@@ -8,7 +8,7 @@ use Rattle.nv_laws_sound.specs.Groups.{AreGrouped, Part, part_of}
 use Rattle.nv_laws_sound.specs.Kept.{IsKeptLane, IsKeptTag}
 use Rattle.nv_laws_sound.specs.Side.{IsKept, Side}
 use Rattle.nv_laws_sound.specs.Unplaced.{unplaced_lane, unplaced_tag}
-use Rattle.nv_machine.specs.Contained.{AreFetched, IsFetched}
+use Rattle.nv_machine.specs.Contained.{AreFetched, IsFetched, after_calls}
 use Rattle.nv_machine.specs.InWorld.{AreOnPages}
 use Rattle.nv_machine.specs.Machine.{call, fetch, fetch_then}
 use Rattle.nv_machine.specs.Unplaced.{AreSameButPlaces}
@@ -117,6 +117,14 @@ module _ (geometry : Geometry) where
   pub all-fetched : (calls : List (Event × List ℕ)) (s z : Side) → AreSameButPlaces s z → AreFetched geometry calls z → AreFetched geometry calls s
   unfolding AreFetched
   all-fetched [] s z same are = are
-  all-fetched (one ∷ calls) s z same are =
-      (fetched-same s z same one.0 one.1 are.0,
-      all-fetched calls (call geometry one.0 one.1 s).now.side (call geometry one.0 one.1 z).now.side (call-same s z same geometry one.0 one.1).sides are.1)
+  all-fetched (one ∷ calls) s z same are = (
+    fetched-same s z same one.0 one.1 are.0,
+    all-fetched calls (call geometry one.0 one.1 s).now.side (call geometry one.0 one.1 z).now.side (call-same s z same geometry one.0 one.1).sides are.1,
+  )
+
+  -- after several calls sides are the same but for places
+  pub after-same : (calls : List (Event × List ℕ)) (s z : Side) → AreSameButPlaces s z → AreSameButPlaces (after_calls geometry calls s) (after_calls geometry calls z)
+  unfolding after_calls
+  after-same [] s z same = same
+  after-same (one ∷ calls) s z same =
+      after-same calls (call geometry one.0 one.1 s).now.side (call geometry one.0 one.1 z).now.side (call-same s z same geometry one.0 one.1).sides

@@ -2,16 +2,22 @@
 
 ghost use Rattle.std.specs.Prelude.{◌≡◌, ℕ, List};
 ghost use Rattle.nv_laws_sound.specs.Side.{IsKept, Side};
-ghost use Rattle.nv_machine.specs.Contained.{AreFetched, IsContained, IsFetched, guest_for};
-ghost use Rattle.nv_machine.specs.InWorld.{AreOnPages};
+ghost use Rattle.nv_laws_sound.specs.Unplaced.{HasSameSide};
+ghost use Rattle.nv_machine.specs.Contained.{AreFetched, IsContained, IsFetched, after_calls, guest_for};
+ghost use Rattle.nv_machine.specs.InWorld.{AreOnPages, side_of};
 ghost use Rattle.nv_machine.specs.Machine.{call, fetch, fetch_then};
 ghost use Rattle.nv_machine.specs.Unplaced.{AreSameButPlaces, ComeToSameButPlaces, unplaced_side};
 ghost use Rattle.nv_world_model.specs.Geometry.{Geometry};
+ghost use Rattle.nv_world_model.specs.World.{World};
 ghost use Rattle.nv_world_model.specs.declared.event.Event.{Event};
 
-/// A side without places is the same side but for places.
+/// A side without places is the same side but for places; and two worlds have the same side of the mediator, as the laws of the world say it, where their
+/// sides are the same but for places.
 pub fn a_side_is_the_same_without_places()
-    ensures { (s : Side) → AreSameButPlaces (unplaced_side s) s }
+    ensures unplaced { (s : Side) → AreSameButPlaces (unplaced_side s) s }
+    ensures back { (s z : Side) → AreSameButPlaces s z → AreSameButPlaces z s }
+    ensures sides { (w v : World) → HasSameSide w v → AreSameButPlaces (side_of w) (side_of v) }
+    ensures worlds { (w v : World) → AreSameButPlaces (side_of w) (side_of v) → HasSameSide w v }
 {}
 
 /// Of two sides that are the same but for places, whatever else they hold, a call fetches from the same addresses, is for the same guest, has with the same
@@ -23,6 +29,8 @@ pub fn a_call_does_not_ask_where_parts_are()
     ensures guests { (e : Event) (fetched : List ℕ) (s z : Side) → AreSameButPlaces s z → guest_for e fetched s ≡ guest_for e fetched z }
     ensures calls { (geometry : Geometry) (e : Event) (fetched : List ℕ) (s z : Side) → AreSameButPlaces s z →
         ComeToSameButPlaces (call geometry e fetched s) (call geometry e fetched z) }
+    ensures several { (geometry : Geometry) (calls : List (Event × List ℕ)) (s z : Side) → AreSameButPlaces s z →
+        AreSameButPlaces (after_calls geometry calls s) (after_calls geometry calls z) }
 {}
 
 /// A side keeps what the mediator's side keeps where one does that is the same but for places, and for the same calls as many bytes are asked for.
@@ -33,7 +41,6 @@ pub fn what_is_kept_does_not_ask_where_parts_are()
         IsFetched geometry e s fetched }
     ensures all_fetched { (geometry : Geometry) (calls : List (Event × List ℕ)) (s z : Side) → AreSameButPlaces s z → AreFetched geometry calls z →
         AreFetched geometry calls s }
-    ensures back { (s z : Side) → AreSameButPlaces s z → AreSameButPlaces z s }
 {}
 
 /// A call that is contained in a side, whatever that side is, is contained in each that is the same but for places.

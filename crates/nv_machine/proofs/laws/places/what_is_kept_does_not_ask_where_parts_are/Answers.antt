@@ -1,5 +1,4 @@
 use Rattle.nv_machine.proofs.PlaceKept.{all-fetched, fetched-same, kept-same, pages-same}
-use Rattle.nv_machine.proofs.PlaceSides.{places-back}
 use Rattle.nv_machine.proofs.laws.places.what_is_kept_does_not_ask_where_parts_are.Goals as goal
 
 pub returns-clause-kept : goal.returns-clause-kept
@@ -13,6 +12,3 @@ returns-clause-fetched c = λ geometry e fetched s z same is. fetched-same geome
 
 pub returns-clause-all_fetched : goal.returns-clause-all_fetched
 returns-clause-all_fetched c = λ geometry calls s z same are. all-fetched geometry calls s z same are
-
-pub returns-clause-back : goal.returns-clause-back
-returns-clause-back c = λ s z same. places-back s z same
