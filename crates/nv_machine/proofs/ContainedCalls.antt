@@ -1,18 +1,20 @@
 -- Each call is contained, from the start of an accepted set-up on.
-use Rattle.std.proofs.Common.{◌≡◌, ℕ, zero, suc, List, [], ◌∷◌, length, replicate, take, None, refl, ap, subst}
-use Rattle.std.proofs.lemmas.List.{length-replicate}
+use Rattle.std.proofs.Common.{◌≡◌, ℕ, zero, suc, ◌+◌, List, [], ◌∷◌, ◌++◌, length, map, arith, replicate, take, None, refl, sym, ap, ◌∙◌, subst}
+use Rattle.std.proofs.lemmas.List.{length-append, length-map, length-replicate}
 use Rattle.nv_laws_sound.proofs.KeptWorlds.{kept-consistent, kept-world}
 use Rattle.nv_laws_sound.proofs.LaidOuts.{host-laid-out}
 use Rattle.nv_laws_sound.proofs.Lists.{slice_get-replicate}
 use Rattle.nv_laws_sound.proofs.Openings.{opening-consistent}
 use Rattle.nv_laws_sound.specs.LaidOut.{IsLaidOut}
 use Rattle.nv_laws_sound.specs.Side.{AreKept, IsKept, Side, opening_side, tails_of}
-use Rattle.nv_machine.specs.Contained.{AreFetched, IsContained, after_calls}
-use Rattle.nv_machine.specs.InWorld.{AreOnPages}
-use Rattle.nv_machine.specs.Machine.{call, fetch}
+use Rattle.nv_machine.specs.Contained.{AreFetched, IsContained, IsFetched, after_calls}
+use Rattle.nv_machine.specs.InWorld.{AreOnPages, fetched_in, side_of}
+use Rattle.nv_machine.specs.Machine.{call, fetch, fetch_then}
 use Rattle.nv_machine.proofs.ContainedEffects.{effects-may}
 use Rattle.nv_machine.proofs.ContainedFetch.{AreSound, first-may, then-may}
+use Rattle.nv_machine.proofs.ContainedFlying.{flying-left}
 use Rattle.nv_machine.proofs.ContainedOthers.{others-left}
+use Rattle.nv_machine.proofs.ContainedRings.{rings-pass}
 use Rattle.nv_machine.proofs.FetchedHosts.{nothing}
 use Rattle.nv_machine.proofs.Reached.{IsReached, reached-kept}
 use Rattle.nv_mem.specs.GuestMap.{mapped}
@@ -23,7 +25,7 @@ use Rattle.nv_model.proofs.QueuesKept.{QueuesHave-opening}
 use Rattle.nv_world_model.specs.Device.{opening_device_lane}
 use Rattle.nv_world_model.specs.Geometry.{Geometry}
 use Rattle.nv_world_model.specs.SetUp.{SetUp, host_refusal_of}
-use Rattle.nv_world_model.specs.World.{opening_lane, opening_world}
+use Rattle.nv_world_model.specs.World.{World, opening_lane, opening_world}
 use Rattle.nv_world_model.specs.declared.event.Event.{Event}
 
 -- ---- the start
@@ -67,7 +69,30 @@ module _ (host_bytes lanes : ℕ) (geometry : Geometry) (laid : IsLaidOut host_b
         then = then-may geometry sound s e fetched (take (length (fetch geometry e s)) fetched);
         effects = effects-may host_bytes lanes geometry laid s reached.kept reached.on_pages e fetched;
         others = others-left geometry s reached.kept e fetched;
+        rings = rings-pass host_bytes lanes geometry laid s reached.kept e fetched;
+        flying = flying-left geometry s reached.kept e fetched;
       }
+
+-- ---- what is fetched in a world
+
+take-front : (xs ys : List ℕ) (n : ℕ) → length xs ≡ n → take n (xs ++ ys) ≡ xs
+take-front [] ys zero many = refl
+take-front [] ys (suc n) many = cc
+take-front (x ∷ xs) ys zero many = cc
+take-front (x ∷ xs) ys (suc n) many = ap (λ (zs : List ℕ). x ∷ zs) (take-front xs ys n (omega (arith, many)))
+
+-- is as many bytes as are asked for
+pub fetched-in : (geometry : Geometry) (e : Event) (w : World) → IsFetched geometry e (side_of w) (fetched_in geometry e w)
+fetched-in geometry e w =
+    let addresses : List ℕ = fetch geometry e (side_of w) in
+    let first : List ℕ = map w.host addresses in
+    let more : List ℕ = fetch_then geometry e (side_of w) first in
+    let same : take (length addresses) (first ++ map w.host more) ≡ first =
+    take-front first (map w.host more) (length addresses) (length-map addresses w.host) in
+    length-append first (map w.host more)
+    ∙ ap (λ (n : ℕ). n + length (map w.host more)) (length-map addresses w.host)
+    ∙ ap (λ (n : ℕ). length addresses + n) (length-map more w.host)
+    ∙ ap (λ (zs : List ℕ). length addresses + length (fetch_then geometry e (side_of w) zs)) (sym same)
 
 -- ---- from the start
 

@@ -279,7 +279,7 @@ module _ (geometry : Geometry) (sound : AreSound geometry) (s : Side) where
         (λ fell. freed-may (ran_out o.controller command.queue) es its)
 
 -- a command has no more tags than a lane has
-group-few : (s : Side) (lane leader : ℕ) (l : Lane) → slice_get s.lanes lane ≡ Some l → length l.tags ≡ tag_count → length (group_at s lane leader) ≤ 64
+pub group-few : (s : Side) (lane leader : ℕ) (l : Lane) → slice_get s.lanes lane ≡ Some l → length l.tags ≡ tag_count → length (group_at s lane leader) ≤ 64
 group-few s lane leader l at many =
     let test : Tag → Bool = λ t. is_that leader (leader_of t) in
     let same = ap (λ (x : Option Lane). length (group_in x leader)) at ∙ ap length (numbers-are test l.tags) ∙ numbers-length test l.tags in

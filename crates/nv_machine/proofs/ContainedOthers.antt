@@ -253,7 +253,7 @@ ended-leaves (Some (Flying command share standing)) st lane tag m at =
 ended-leaves (Some (Ended command before share)) st lane tag m at = leaves-all (Some command.guest) m.side
 
 -- its lane goes on to the next slot
-read-tags : (lanes : List Lane) (lane : ℕ) (l : Lane) → slice_get lanes lane ≡ Some l → (other tag : ℕ)
+pub read-tags : (lanes : List Lane) (lane : ℕ) (l : Lane) → slice_get lanes lane ≡ Some l → (other tag : ℕ)
     → tag_in (slice_get (set lanes lane (step.completion_read l)) other) tag ≡ tag_in (slice_get lanes other) tag
 read-tags lanes lane l at other tag = by (other == lane) refl
   where

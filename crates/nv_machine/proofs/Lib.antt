@@ -29,6 +29,10 @@ pub mod ContainedEffects
 pub mod PagesKept
 pub mod FetchedHosts
 pub mod Reached
+pub mod SubmitRings
+pub mod ControllerCalls
+pub mod ContainedRings
+pub mod ContainedFlying
 pub mod ContainedCalls
 pub mod AlikeSides
 pub mod AlikeGroups

@@ -10,6 +10,7 @@ use Rattle.nv_laws_sound.proofs.ReapEvents.{answered-at}
 use Rattle.nv_laws_sound.proofs.Rings.{between-head, far-some}
 use Rattle.nv_laws_sound.proofs.phases.Rounds.{slot-tells}
 use Rattle.nv_laws_sound.specs.Consistent.{IsLane}
+use Rattle.nv_laws_sound.specs.Side.{Side}
 use Rattle.nv_machine.specs.Doing.{Doing, for_one, lane_changed, replied, stray}
 use Rattle.nv_machine.specs.InWorld.{IsLive, called_in, fetched_in, in_world, side_of}
 use Rattle.nv_machine.specs.Machine.{called, ended_at, fetch, fetch_then, from_one, in_order, is_flying, is_new, names_command, reap, reaped_by}
@@ -59,7 +60,83 @@ drop-first (a ∷ b ∷ []) ys is = cc
 drop-first (a ∷ b ∷ c ∷ []) ys is = cc
 drop-first (a ∷ b ∷ c ∷ d ∷ e ∷ xs) ys is = absurd (omega (arith, is))
 
--- ---- a lane
+-- ---- the call with these bytes
+
+module _ (host : ℕ → ℕ) (slot lane : ℕ) (l : Lane) where
+  abbrev first : List ℕ
+  first = bytes_from host (slot + 12) 4
+
+  abbrev rest : List ℕ
+  rest = bytes_from host slot 12
+
+  abbrev whole : List ℕ
+  whole = bytes_from host slot 16
+
+  -- what is fetched
+  pub fetched : List ℕ
+  fetched = first ++ cond (is_new l first) rest []
+
+  new-is : is_new l first ≡ (phase_of whole == bit l.phase)
+  new-is = ap (λ (n : ℕ). n == bit l.phase) (phase-first host slot)
+
+  -- where it is new it is read whole, and else not at all
+  pub reap-by : (m : Doing) (new : Bool) → (phase_of whole == bit l.phase) ≡ new
+      → reap lane l fetched m ≡ cond new (reaped_by lane l whole m) (replied reply.Idle m)
+  unfolding fetched
+  reap-by m true is =
+      let new : is_new l first ≡ true = new-is ∙ is in
+      let len : length first ≡ 4 = length-bytes_from host (slot + 12) 4 in
+      ap (λ (b : Bool). reap lane l (first ++ cond b rest []) m) new
+      ∙ ap (λ (xs : List ℕ). cond (is_new l xs) (reaped_by lane l (in_order (first ++ rest)) m) (replied reply.Idle m)) (take-first first rest len)
+      ∙ ap (λ (b : Bool). cond b (reaped_by lane l (in_order (first ++ rest)) m) (replied reply.Idle m)) new
+      ∙ ap (λ (xs : List ℕ). reaped_by lane l xs m)
+      (ap (λ (xs : List ℕ). xs ++ take 4 (first ++ rest)) (drop-first first rest len) ∙ ap (λ (xs : List ℕ). rest ++ xs) (take-first first rest len)
+      ∙ sym (bytes_from-append host slot 12 4))
+  reap-by m false is =
+      let old : is_new l first ≡ false = new-is ∙ is in
+      ap (λ (xs : List ℕ). cond (is_new l xs) (reaped_by lane l (in_order (first ++ cond (is_new l first) rest [])) m) (replied reply.Idle m))
+      (take-first first (cond (is_new l first) rest []) (length-bytes_from host (slot + 12) 4))
+      ∙ ap (λ (b : Bool). cond b (reaped_by lane l (in_order (first ++ cond (is_new l first) rest [])) m) (replied reply.Idle m)) old
+
+-- the bytes that a Reap fetches from a memory
+pub reap-fetched : (geometry : Geometry) (host : ℕ → ℕ) (s : Side) (lane : ℕ) (l : Lane) → slice_get s.lanes lane ≡ Some l
+    → (let first = map host (fetch geometry (event.Reap lane) s) in first ++ map host (fetch_then geometry (event.Reap lane) s first))
+    ≡ fetched host (completion_slot geometry.mediator lane l.head) lane l
+unfolding fetch fetch_then fetched
+reap-fetched geometry host s lane l found =
+    let slot : ℕ = completion_slot geometry.mediator lane l.head in
+    let first : List ℕ = bytes_from host (slot + 12) 4 in
+    ap (λ (o : Option Lane). let first = map host (from_one o (λ l. range_with_len (completion_slot geometry.mediator lane l.head + 12) 4)) in
+    first ++ map host (from_one o (λ l. cond (is_new l first) (range_with_len (completion_slot geometry.mediator lane l.head) 12) []))) found
+    ∙ ap (λ (xs : List ℕ). xs ++ map host (cond (is_new l xs) (range_with_len slot 12) [])) (row-read host (slot + 12) 4)
+    ∙ ap (λ (xs : List ℕ). first ++ xs) (then-read (is_new l first) slot)
+  where
+    then-read : (b : Bool) (slot : ℕ) → map host (cond b (range_with_len slot 12) []) ≡ cond b (bytes_from host slot 12) []
+    then-read true slot = row-read host slot 12
+    then-read false slot = refl
+
+-- a completion that was read ends its tag in the world, too
+module _ (w : World) (lane : ℕ) (completion : List ℕ) where
+  ended-in : (t : Option Tag) (cid : ℕ) (v : World) (k : Doing) → in_world w k ≡ v
+      → in_world w (ended_at t (status_of completion) lane cid k) ≡ step.ended_at t (status_of completion) lane cid v
+  ended-in None cid v k is = is
+  ended-in (Some Free) cid v k is = is
+  ended-in (Some (Taken command reads)) cid v k is = is
+  ended-in (Some (Flying command share standing)) cid v k is =
+      ap (with_tag lane cid (Ended command (step.passed_on (status_of completion)) (Some share))) is
+  ended-in (Some (Ended command st share)) cid v k is = is
+
+  pub reaped-in : (l : Lane) (m : Doing) → in_world w m ≡ w → slice_get w.lanes lane ≡ Some l
+      → in_world w (ended_at (slice_get l.tags (completed_cid completion)) (status_of completion) lane (completed_cid completion)
+      (lane_changed lane step.completion_read m)) ≡ step.reaped lane completion w
+  unfolding step.reaped
+  reaped-in l m into found =
+      ended-in (slice_get l.tags (completed_cid completion)) (completed_cid completion) (with_lane lane step.completion_read w)
+      (lane_changed lane step.completion_read m) (ap (with_lane lane step.completion_read) into)
+      ∙ ap (λ (o : Option Lane). step.ended_at (tag_in o (completed_cid completion)) (status_of completion) lane (completed_cid completion)
+      (with_lane lane step.completion_read w)) (sym found)
+
+-- ---- a lane of a world that is as events leave it
 
 module _ (geometry : Geometry) (w : World) (live : IsLive geometry w) (lane : ℕ) (l : Lane) (d : DeviceLane) (found : slice_get w.lanes lane ≡ Some l)
     (there : slice_get w.device lane ≡ Some d) where
@@ -69,22 +146,11 @@ module _ (geometry : Geometry) (w : World) (live : IsLive geometry w) (lane : �
   abbrev completion : List ℕ
   completion = completion_at geometry w lane l.head
 
-  abbrev first : List ℕ
-  first = bytes_from w.host (slot + 12) 4
-
-  abbrev rest : List ℕ
-  rest = bytes_from w.host slot 12
-
   fine : IsLane geometry lane w.host l d
   fine = live.consistent.of_tags.lanes lane l d found there
 
-  new-tells : is_new l first ≡ not (is_empty l.head d.posted)
-  new-tells =
-      ap (λ (n : ℕ). n == bit l.phase) (phase-first w.host slot)
-      ∙ sym (slot-tells geometry w.host lane l.head l.phase d.posted d.phase fine.positions.read (live.phased lane l d found there))
-
-  whole : rest ++ first ≡ completion
-  whole = sym (bytes_from-append w.host slot 12 4)
+  new-tells : (phase_of completion == bit l.phase) ≡ not (is_empty l.head d.posted)
+  new-tells = sym (slot-tells geometry w.host lane l.head l.phase d.posted d.phase fine.positions.read (live.phased lane l d found there))
 
   -- where one waits it names a command
   waiting-named : is_empty l.head d.posted ≡ false → names_command lane l completion ≡ true
@@ -106,53 +172,20 @@ module _ (geometry : Geometry) (w : World) (live : IsLive geometry w) (lane : �
 
   -- ---- the call
 
-  module _ (m : Doing) (side : m.side.lanes ≡ w.lanes) (into : in_world w m ≡ w) where
-    ended-in : (t : Option Tag) (cid : ℕ) (v : World) (k : Doing) → in_world w k ≡ v
-        → in_world w (ended_at t (status_of completion) lane cid k) ≡ step.ended_at t (status_of completion) lane cid v
-    ended-in None cid v k is = is
-    ended-in (Some Free) cid v k is = is
-    ended-in (Some (Taken command reads)) cid v k is = is
-    ended-in (Some (Flying command share standing)) cid v k is =
-        ap (with_tag lane cid (Ended command (step.passed_on (status_of completion)) (Some share))) is
-    ended-in (Some (Ended command st share)) cid v k is = is
-
-    waiting : (empty : Bool) → is_empty l.head d.posted ≡ empty
-        → Is w (cond (not empty) (reaped_by lane l completion m) (replied reply.Idle m))
-        (cond empty (step.replied reply.Idle w) (step.replied reply.Done (step.reaped lane completion w)))
-    unfolding step.reaped
-    waiting true none = ap (λ (v : World). let a : step.After = record { world = v; reply = reply.Idle } in Some a) into
-    waiting false some =
-        ap (λ (b : Bool). called_in w (cond b (replied reply.Done (ended_at (slice_get l.tags (completed_cid completion)) (status_of completion) lane (completed_cid completion)
-        (lane_changed lane step.completion_read m))) (stray m))) (waiting-named some)
-        ∙ ap (λ (v : World). let a : step.After = record { world = v; reply = reply.Done } in Some a)
-        (ended-in (slice_get l.tags (completed_cid completion)) (completed_cid completion) (with_lane lane step.completion_read w)
-        (lane_changed lane step.completion_read m) (ap (with_lane lane step.completion_read) into)
-        ∙ ap (λ (o : Option Lane). step.ended_at (tag_in o (completed_cid completion)) (status_of completion) lane (completed_cid completion)
-        (with_lane lane step.completion_read w)) (sym found))
-
-    read-is : Is w (reap lane l (first ++ cond (is_new l first) rest []) m) (step.reap geometry lane l d w)
-    read-is = by (is_empty l.head d.posted) refl
-      where
-        len : length first ≡ 4
-        len = length-bytes_from w.host (slot + 12) 4
-
-        by : (empty : Bool) → is_empty l.head d.posted ≡ empty → Is w (reap lane l (first ++ cond (is_new l first) rest []) m) (step.reap geometry lane l d w)
-        by true none =
-            let old : is_new l first ≡ false = new-tells ∙ ap not none in
-            ap (λ (xs : List ℕ). called_in w (cond (is_new l xs) (reaped_by lane l (in_order (first ++ cond (is_new l first) rest [])) m) (replied reply.Idle m)))
-            (take-first first (cond (is_new l first) rest []) len)
-            ∙ ap (λ (b : Bool). called_in w (cond b (reaped_by lane l (in_order (first ++ cond (is_new l first) rest [])) m) (replied reply.Idle m))) old
-            ∙ waiting true none
-            ∙ ap (λ (b : Bool). Some (cond b (step.replied reply.Idle w) (step.replied reply.Done (step.reaped lane completion w)))) (sym none)
-        by false some =
-            let new : is_new l first ≡ true = new-tells ∙ ap not some in
-            ap (λ (b : Bool). called_in w (reap lane l (first ++ cond b rest []) m)) new
-            ∙ ap (λ (xs : List ℕ). called_in w (cond (is_new l xs) (reaped_by lane l (in_order (first ++ rest)) m) (replied reply.Idle m))) (take-first first rest len)
-            ∙ ap (λ (b : Bool). called_in w (cond b (reaped_by lane l (in_order (first ++ rest)) m) (replied reply.Idle m))) new
-            ∙ ap (λ (xs : List ℕ). called_in w (reaped_by lane l xs m))
-            (ap (λ (xs : List ℕ). xs ++ take 4 (first ++ rest)) (drop-first first rest len) ∙ ap (λ (xs : List ℕ). rest ++ xs) (take-first first rest len) ∙ whole)
-            ∙ waiting false some
-            ∙ ap (λ (b : Bool). Some (cond b (step.replied reply.Idle w) (step.replied reply.Done (step.reaped lane completion w)))) (sym some)
+  read-is : (m : Doing) → in_world w m ≡ w → Is w (reap lane l (fetched w.host slot lane l) m) (step.reap geometry lane l d w)
+  read-is m into = by (is_empty l.head d.posted) refl
+    where
+      by : (empty : Bool) → is_empty l.head d.posted ≡ empty → Is w (reap lane l (fetched w.host slot lane l) m) (step.reap geometry lane l d w)
+      by true none =
+          ap (called_in w) (reap-by w.host slot lane l m false (new-tells ∙ ap not none))
+          ∙ ap (λ (v : World). let a : step.After = record { world = v; reply = reply.Idle } in Some a) into
+          ∙ ap (λ (b : Bool). Some (cond b (step.replied reply.Idle w) (step.replied reply.Done (step.reaped lane completion w)))) (sym none)
+      by false some =
+          ap (called_in w) (reap-by w.host slot lane l m true (new-tells ∙ ap not some))
+          ∙ ap (λ (b : Bool). called_in w (cond b (replied reply.Done (ended_at (slice_get l.tags (completed_cid completion)) (status_of completion) lane
+          (completed_cid completion) (lane_changed lane step.completion_read m))) (stray m))) (waiting-named some)
+          ∙ ap (λ (v : World). let a : step.After = record { world = v; reply = reply.Done } in Some a) (reaped-in w lane completion l m into found)
+          ∙ ap (λ (b : Bool). Some (cond b (step.replied reply.Idle w) (step.replied reply.Done (step.reaped lane completion w)))) (sym some)
 
 -- ---- the event
 
@@ -162,29 +195,17 @@ module _ (geometry : Geometry) (w : World) (live : IsLive geometry w) where
 
   pub reap-is : (lane : ℕ)
       → Is w (called geometry (event.Reap lane) (fetched_in geometry (event.Reap lane) w) begun) (step.step geometry (event.Reap lane) w)
-  unfolding called step.step fetch fetch_then
+  unfolding called step.step
   reap-is lane = by (slice_get w.lanes lane) refl
     where
-      fetched : Option Lane → List ℕ
-      fetched o =
-          (let first = map w.host (from_one o (λ l. range_with_len (completion_slot geometry.mediator lane l.head + 12) 4)) in
-          first ++ map w.host (from_one o (λ l. cond (is_new l first) (range_with_len (completion_slot geometry.mediator lane l.head) 12) [])))
-
-      first-then : (b : Bool) (slot : ℕ) → map w.host (cond b (range_with_len slot 12) []) ≡ cond b (bytes_from w.host slot 12) []
-      first-then true slot = row-read w.host slot 12
-      first-then false slot = refl
-
       by : (o : Option Lane) → slice_get w.lanes lane ≡ o
-          → Is w (for_one o begun (λ l. reap lane l (fetched o) begun))
+          → Is w (for_one o begun (λ l. reap lane l (fetched_in geometry (event.Reap lane) w) begun))
           (step.for_one o w (λ l. step.for_one (slice_get w.device lane) w (λ d. step.reap geometry lane l d w)))
       by None none = ap (λ (v : World). let a : step.After = record { world = v; reply = reply.Ignored } in Some a) (in-first w)
       by (Some l) found =
           let sides = live.consistent.of_tags.sides in
           let below = slice_get-below w.lanes lane l found in
           let d = slice_get-there w.device lane (omega (arith, sides, below)) in
-          let slot : ℕ = completion_slot geometry.mediator lane l.head in
-          let first : List ℕ = bytes_from w.host (slot + 12) 4 in
-          ap (λ (xs : List ℕ). called_in w (reap lane l (xs ++ map w.host (cond (is_new l xs) (range_with_len slot 12) [])) begun)) (row-read w.host (slot + 12) 4)
-          ∙ ap (λ (xs : List ℕ). called_in w (reap lane l (first ++ xs) begun)) (first-then (is_new l first) slot)
-          ∙ read-is geometry w live lane l d.0 found d.1 begun refl (in-first w)
+          ap (λ (xs : List ℕ). called_in w (reap lane l xs begun)) (reap-fetched geometry w.host (side_of w) lane l found)
+          ∙ read-is geometry w live lane l d.0 found d.1 begun (in-first w)
           ∙ ap (λ (x : Option DeviceLane). Some (step.for_one x w (λ d. step.reap geometry lane l d w))) (sym d.1)

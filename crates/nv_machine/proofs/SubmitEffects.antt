@@ -146,7 +146,7 @@ module _ (geometry : Geometry) (sound : AreSound geometry) (aligned : geometry.m
             subst (λ (x : Option ℕ). Hands m (more (submitted_on x geometry.mediator lane tag command share o m)) tail (suc few)) (sym there) hands-flying
 
   -- the shares in order
-  hands-on : (tags : List ℕ) (shares : List Share) (m : Doing) (tail : ℕ) → slice_get m.side.tails lane ≡ Some tail → tail < ring_size
+  pub hands-on : (tags : List ℕ) (shares : List Share) (m : Doing) (tail : ℕ) → slice_get m.side.tails lane ≡ Some tail → tail < ring_size
       → length tags ≤ 64 → All Mine tags → All (IsPlanned o.given command.entry) shares
       → Hands m (handed_on geometry.mediator lane tags shares command o m) tail (length tags)
   unfolding handed_on

@@ -1,19 +1,22 @@
 -- What a call may fetch, and what its effects may touch, whatever bytes were fetched: of guests the memory, tags and pages of the one that it is for, and
--- of the rings the next slots. Neither a world nor the physical controller is in it. Isolation between guests is the project's own (profile).
-use Rattle.std.specs.Prelude.{◌≡◌, ◌≢◌, ℕ, ◌+◌, ◌<◌, ◌≤◌, All, List, [], ◌∷◌, length, slice_get, take, true, Option, Some, None}
+-- of the rings the next slots, which get entries of the owner's. Neither a world nor the physical controller is in it. Isolation between guests is the project's own (profile).
+use Rattle.std.specs.Prelude.{◌≡◌, ◌≢◌, ℕ, ◌+◌, ◌<◌, ◌≤◌, All, Bool, true, false, ◌&&◌, ◌==◌, List, [], ◌∷◌, length, slice_get, take, Option, Some, None}
 use Rattle.std.specs.Bool.{⊤}
+use Rattle.std.specs.List.{Contains}
 use Rattle.nv_entry.specs.Completion.{cid_of as completed_cid}
 use Rattle.nv_laws_sound.specs.Consistent.{IsBetween}
 use Rattle.nv_laws_sound.specs.Side.{Side}
 use Rattle.nv_machine.specs.Doing.{tag_at}
 use Rattle.nv_machine.specs.Effects.{Copy, Effect, Store}
-use Rattle.nv_machine.specs.Machine.{call, fetch, fetch_then, in_order}
+use Rattle.nv_machine.specs.Machine.{call, fetch, fetch_then, in_order, is_flying}
 use Rattle.nv_model.specs.Queue.{cqe_size, sqe_size}
 use Rattle.nv_world_model.specs.Area.{completion_slot, list_page, submission_slot}
 use Rattle.nv_world_model.specs.Contained.{guest_of_one}
 use Rattle.nv_world_model.specs.Geometry.{Geometry, Guest}
+use Rattle.nv_world_model.specs.Share.{Share}
+use Rattle.nv_world_model.specs.ShareArea.{share_entry}
 use Rattle.nv_world_model.specs.View.{guest_of_tag, in_image, own_tag}
-use Rattle.nv_world_model.specs.World.{Lane, Tag}
+use Rattle.nv_world_model.specs.World.{Command, Flying, Lane, Queued, Tag}
 use Rattle.nv_world_model.specs.declared.event.Event.{Event}
 use Rattle.nv_world_model.specs.declared.event.Event.TheVariants as event
 
@@ -76,12 +79,39 @@ MayDo geometry s after None effect = ⊥
 MayDo geometry s after (Some number) (Store to bytes) = (i : ℕ) → i < length bytes → IsOwnOrNext geometry s after number (to + i)
 MayDo geometry s after (Some number) (Copy from to) = IsOwn geometry s number from × IsOwn geometry s number to
 
+-- a slot of a lane's submission ring gets the physical entry of a share of the owner's, under a tag that flies with that slot after the call
+pub record HasEntry (geometry : Geometry) (after : Side) (number lane slot : ℕ) (effects : List Effect) : Type 0 where
+  pub given : Guest
+  pub is : slice_get geometry.guests number ≡ Some given
+  pub command : Command
+  pub whose : command.guest ≡ number
+  pub share : Share
+  pub tag : ℕ
+  pub flies : tag_at after lane tag ≡ Some (Flying command share (Queued slot))
+  pub stored : Contains effects
+      (Store (submission_slot geometry.mediator lane slot) (share_entry share given.namespace given command.entry geometry.mediator lane tag))
+
+-- what the tail of a lane's submission ring may pass, so that the physical controller takes it
+abbrev pub MayPass : Geometry → (after : Side) → (number : Option ℕ) → (lane slot : ℕ) → List Effect → Type 0
+MayPass geometry after None lane slot effects = ⊥
+MayPass geometry after (Some number) lane slot effects = HasEntry geometry after number lane slot effects
+
 -- ---- the mediator's side
 
 -- what is another guest's is as before: its controller, its tags, and which tags are whose
 pub record LeavesOthers (number : Option ℕ) (s after : Side) : Type 0 where
   pub controllers : (other : ℕ) → number ≢ Some other → slice_get after.controllers other ≡ slice_get s.controllers other
   pub tags : (other lane tag : ℕ) → number ≢ Some other → own_tag other (tag_at after lane tag) ≡ own_tag other (tag_at s lane tag)
+
+-- a completion that was fetched is read, and names that tag
+abbrev pub reads_for : Event → (fetched : List ℕ) → (lane tag : ℕ) → Bool
+reads_for (event.Reap number) fetched lane tag = number == lane && completed_cid (in_order fetched) == tag
+reads_for _ fetched lane tag = false
+
+-- what was handed on stays in flight until its completion is read: nothing of the physical controller's reaches a tag that is another's by then
+abbrev pub LeavesFlying : Event → (fetched : List ℕ) → (s after : Side) → Type 0
+LeavesFlying e fetched s after =
+    (lane tag : ℕ) → is_flying (tag_at s lane tag) ≡ true → reads_for e fetched lane tag ≡ false → tag_at after lane tag ≡ tag_at s lane tag
 
 -- ---- the whole
 
@@ -91,3 +121,7 @@ pub record IsContained (geometry : Geometry) (e : Event) (fetched : List ℕ) (s
   pub then : All (MayFetch geometry e s (guest_for e fetched s)) (fetch_then geometry e s (take (length (fetch geometry e s)) fetched))
   pub effects : All (MayDo geometry s (call geometry e fetched s).now.side (guest_for e fetched s)) (call geometry e fetched s).now.effects
   pub others : LeavesOthers (guest_for e fetched s) s (call geometry e fetched s).now.side
+  pub rings : (lane tail behind slot : ℕ) → slice_get s.tails lane ≡ Some tail → slice_get (call geometry e fetched s).now.side.tails lane ≡ Some behind
+      → IsBetween tail behind slot
+      → MayPass geometry (call geometry e fetched s).now.side (guest_for e fetched s) lane slot (call geometry e fetched s).now.effects
+  pub flying : LeavesFlying e fetched s (call geometry e fetched s).now.side

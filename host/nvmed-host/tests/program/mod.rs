@@ -26,6 +26,13 @@ impl Program {
         Self::run(Command::new(PROGRAM).args(words).arg(path))
     }
 
+    /// The same by a command that runs the program with the words that come after its own.
+    pub fn start_by(mut command: Command, folder: &Folder, text: &str, words: &[&str]) -> Self {
+        let path = folder.path("configuration");
+        std::fs::write(&path, text).unwrap();
+        Self::run(command.args(words).arg(path))
+    }
+
     /// Starts it by a command.
     pub fn run(command: &mut Command) -> Self {
         let command = command.stdin(Stdio::null()).stdout(Stdio::null());
@@ -47,11 +54,39 @@ impl Program {
         text
     }
 
+    /// What a file of its folder in `/proc` says.
+    pub fn about(&self, file: &str) -> String {
+        std::fs::read_to_string(format!("/proc/{}/{file}", self.0.id())).unwrap()
+    }
+
     /// Ticks of processor time, of all threads.
     pub fn ticks(&self) -> u64 {
-        let stat = std::fs::read_to_string(format!("/proc/{}/stat", self.0.id())).unwrap();
+        let stat = self.about("stat");
         let fields: Vec<&str> = stat.rsplit_once(')').unwrap().1.split_whitespace().collect();
         fields[11].parse::<u64>().unwrap() + fields[12].parse::<u64>().unwrap()
+    }
+
+    /// The number of its process.
+    pub fn number(&self) -> u32 {
+        self.0.id()
+    }
+
+    /// How many descriptors it has.
+    pub fn descriptors(&self) -> usize {
+        std::fs::read_dir(format!("/proc/{}/fd", self.0.id())).unwrap().count()
+    }
+
+    /// The numbers and names of its threads.
+    pub fn threads(&self) -> Vec<(Pid, String)> {
+        let folder = format!("/proc/{}/task", self.0.id());
+        let threads = std::fs::read_dir(folder).unwrap().map(|it| it.unwrap().path());
+        threads
+            .filter_map(|it| {
+                let number = it.file_name()?.to_str()?.parse().ok()?;
+                let name = std::fs::read_to_string(it.join("comm")).ok()?;
+                Some((Pid::from_raw(number), name.trim().to_owned()))
+            })
+            .collect()
     }
 }
 

@@ -1,0 +1,3 @@
+pub mod Tied
+pub mod Reaps
+pub mod Contained
