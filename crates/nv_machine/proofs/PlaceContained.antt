@@ -1,8 +1,9 @@
--- A call that is contained is contained in a side that is the same but for the places of parts.
+-- What a call may touch it may touch in a side that is the same but for the places of parts.
 use Rattle.std.proofs.Common.{◌≡◌, ℕ, Bool, true, false, List, length, slice_get, take, All, Option, Some, None, refl, sym, ap, ◌∙◌, subst}
 use Rattle.std.specs.Option.{option_map}
 use Rattle.std.proofs.lemmas.List.Elements.{All-weaker}
-use Rattle.nv_laws_sound.specs.Side.{Side}
+use Rattle.nv_laws_sound.specs.LaidOut.{IsLaidOut}
+use Rattle.nv_laws_sound.specs.Side.{IsKept, Side}
 use Rattle.nv_laws_sound.specs.Unplaced.{unplaced_tag}
 use Rattle.nv_machine.specs.Contained.{IsContained, IsOwn, IsOwnOrNext, LeavesOthers, MayDo, MayFetch, NextSlot, OfMemory, OfPages, Own, guest_for}
 use Rattle.nv_machine.specs.Doing.{Called, tag_at}
@@ -10,9 +11,11 @@ use Rattle.nv_machine.specs.Effects.{Copy, Effect, Store}
 use Rattle.nv_machine.specs.Machine.{call, fetch, fetch_then}
 use Rattle.nv_machine.specs.Unplaced.{AreSameButPlaces}
 use Rattle.nv_machine.proofs.PlaceCalls.{call-same, fetch-same, for-same, guest-same, guest-unplaced, then-same}
-use Rattle.nv_machine.proofs.PlaceKept.{lane-same}
+use Rattle.nv_machine.proofs.ContainedFlying.{flying-left}
+use Rattle.nv_machine.proofs.ContainedRings.{rings-pass}
+use Rattle.nv_machine.proofs.PlaceKept.{kept-same, lane-same}
 use Rattle.nv_machine.proofs.PlacePuts.{AsBefore, NotTheirs, Stands, call-puts}
-use Rattle.nv_machine.proofs.PlaceSides.{tag-same, tags-told}
+use Rattle.nv_machine.proofs.PlaceSides.{places-back, tag-same, tags-told}
 use Rattle.nv_model.specs.Controller.{Controller}
 use Rattle.nv_world_model.specs.Contained.{guest_of_one}
 use Rattle.nv_world_model.specs.Geometry.{Geometry}
@@ -125,7 +128,7 @@ module _ (geometry : Geometry) (s z : Side) (same : AreSameButPlaces s z) where
         (subst (All (MayFetch geometry e z mine)) are
         (All-weaker (MayFetch geometry e s mine) (MayFetch geometry e z mine) (may-same e mine) xs may))
 
-    all-do : All (MayDo geometry s of_s.now.side mine) of_s.now.effects → All (MayDo geometry z of_z.now.side theirs) of_z.now.effects
+    pub all-do : All (MayDo geometry s of_s.now.side mine) of_s.now.effects → All (MayDo geometry z of_z.now.side theirs) of_z.now.effects
     all-do may =
         let both = call-same s z same geometry e fetched in
         subst (λ (g : Option ℕ). All (MayDo geometry z of_z.now.side g) of_z.now.effects) is-for
@@ -133,7 +136,7 @@ module _ (geometry : Geometry) (s z : Side) (same : AreSameButPlaces s z) where
         (All-weaker (MayDo geometry s of_s.now.side mine) (MayDo geometry z of_z.now.side mine) (do-same of_s.now.side of_z.now.side both.sides mine)
         of_s.now.effects may))
 
-    all-left : LeavesOthers mine s of_s.now.side → LeavesOthers theirs z of_z.now.side
+    pub all-left : LeavesOthers mine s of_s.now.side → LeavesOthers theirs z of_z.now.side
     all-left left =
         let both = call-same s z same geometry e fetched in
         record {
@@ -146,15 +149,32 @@ module _ (geometry : Geometry) (s z : Side) (same : AreSameButPlaces s z) where
               (left.tags other lane tag (λ is. apart (sym is-for ∙ is))) (call-puts geometry z e fetched other lane tag apart));
         }
 
-    pub contained-same : IsContained geometry e fetched s → IsContained geometry e fetched z
-    contained-same is =
-        let fetches : fetch geometry e s ≡ fetch geometry e z = fetch-same s z same geometry e in
+    abbrev first_s : ℕ
+    first_s = length (fetch geometry e s)
+
+    abbrev first_z : ℕ
+    first_z = length (fetch geometry e z)
+
+    pub first-may : All (MayFetch geometry e s mine) (fetch geometry e s) → All (MayFetch geometry e z theirs) (fetch geometry e z)
+    first-may may = all-may (fetch geometry e s) (fetch geometry e z) (fetch-same s z same geometry e) may
+
+    pub then-may : All (MayFetch geometry e s mine) (fetch_then geometry e s (take first_s fetched))
+        → All (MayFetch geometry e z theirs) (fetch_then geometry e z (take first_z fetched))
+    then-may may =
+        all-may (fetch_then geometry e s (take first_s fetched)) (fetch_then geometry e z (take first_z fetched))
+        (then-same s z same geometry e (take first_s fetched)
+        ∙ ap (λ (first : List ℕ). fetch_then geometry e z (take (length first) fetched)) (fetch-same s z same geometry e)) may
+
+    -- and a call that is contained, where the mediator's side keeps what it keeps: what is in flight, and what a tail passes, is told with places
+    pub contained-same : (host_bytes lanes : ℕ) → IsLaidOut host_bytes lanes geometry → IsKept geometry s → IsContained geometry e fetched s
+        → IsContained geometry e fetched z
+    contained-same host_bytes lanes laid kept is =
+        let also : IsKept geometry z = kept-same geometry z s (places-back s z same) kept in
         record {
-          first = all-may (fetch geometry e s) (fetch geometry e z) fetches is.first;
-          then =
-              all-may (fetch_then geometry e s (take (length (fetch geometry e s)) fetched)) (fetch_then geometry e z (take (length (fetch geometry e z)) fetched))
-              (then-same s z same geometry e (take (length (fetch geometry e s)) fetched)
-              ∙ ap (λ (first : List ℕ). fetch_then geometry e z (take (length first) fetched)) fetches) is.then;
+          first = first-may is.first;
+          then = then-may is.then;
           effects = all-do is.effects;
           others = all-left is.others;
+          rings = rings-pass host_bytes lanes geometry laid z also e fetched;
+          flying = flying-left geometry z also e fetched;
         }

@@ -1,6 +1,6 @@
 -- Whatever the side is, what a call puts in a tag is its own guest's, or nobody's: each other tag is as it was before.
-use Rattle.std.proofs.Common.{◌≡◌, ◌≢◌, ℕ, zero, suc, Bool, true, false, cond, ◌&&◌, ◌==◌, List, [], ◌∷◌, length, nat_le, not, set, slice_get, slice_index, take, Option, Some, None}
-use Rattle.std.proofs.Common.{refl, sym, ap, ◌∙◌, subst}
+use Rattle.std.proofs.Common.{◌≡◌, ◌≢◌, ℕ, zero, suc, Bool, true, false, cond, ◌&&◌, ◌==◌, List, [], ◌∷◌, length, Option, Some, None}
+use Rattle.std.proofs.Common.{not, nat_le, refl, set, slice_get, slice_index, sym, take, ap, ◌∙◌, subst}
 use Rattle.nv_entry.specs.Completion.{cid_of as completed_cid, status_of}
 use Rattle.nv_entry.specs.Layout.{number_bytes}
 use Rattle.nv_entry.specs.Status.{StatusField}

@@ -1,9 +1,10 @@
 //! The machine does not ask where parts are that were handed on.
 
-ghost use Rattle.std.specs.Prelude.{◌≡◌, ℕ, List};
+ghost use Rattle.std.specs.Prelude.{◌≡◌, ℕ, All, List, length, take};
+ghost use Rattle.nv_laws_sound.specs.LaidOut.{IsLaidOut};
 ghost use Rattle.nv_laws_sound.specs.Side.{IsKept, Side};
 ghost use Rattle.nv_laws_sound.specs.Unplaced.{HasSameSide};
-ghost use Rattle.nv_machine.specs.Contained.{AreFetched, IsContained, IsFetched, after_calls, guest_for};
+ghost use Rattle.nv_machine.specs.Contained.{AreFetched, IsContained, IsFetched, LeavesOthers, MayDo, MayFetch, after_calls, guest_for};
 ghost use Rattle.nv_machine.specs.InWorld.{AreOnPages, side_of};
 ghost use Rattle.nv_machine.specs.Machine.{call, fetch, fetch_then};
 ghost use Rattle.nv_machine.specs.Unplaced.{AreSameButPlaces, ComeToSameButPlaces, unplaced_side};
@@ -43,8 +44,21 @@ pub fn what_is_kept_does_not_ask_where_parts_are()
         AreFetched geometry calls s }
 {}
 
-/// A call that is contained in a side, whatever that side is, is contained in each that is the same but for places.
+/// In a side that is the same but for places a call may fetch and do the same, and it leaves others' alone where it does so in the one, whatever the sides are.
+/// What `IsContained` says more is told with places (what was handed on is as it was before, place and all): so a call that is contained is contained in the
+/// other where its side keeps what the mediator's side keeps.
 pub fn containment_does_not_ask_where_parts_are()
-    ensures { (geometry : Geometry) (e : Event) (fetched : List ℕ) (s z : Side) → AreSameButPlaces s z → IsContained geometry e fetched s →
-        IsContained geometry e fetched z }
+    ensures first { (geometry : Geometry) (e : Event) (fetched : List ℕ) (s z : Side) → AreSameButPlaces s z →
+        All (MayFetch geometry e s (guest_for e fetched s)) (fetch geometry e s) → All (MayFetch geometry e z (guest_for e fetched z)) (fetch geometry e z) }
+    ensures then { (geometry : Geometry) (e : Event) (fetched : List ℕ) (s z : Side) → AreSameButPlaces s z →
+        All (MayFetch geometry e s (guest_for e fetched s)) (fetch_then geometry e s (take (length (fetch geometry e s)) fetched)) →
+        All (MayFetch geometry e z (guest_for e fetched z)) (fetch_then geometry e z (take (length (fetch geometry e z)) fetched)) }
+    ensures effects { (geometry : Geometry) (e : Event) (fetched : List ℕ) (s z : Side) → AreSameButPlaces s z →
+        All (MayDo geometry s (call geometry e fetched s).now.side (guest_for e fetched s)) (call geometry e fetched s).now.effects →
+        All (MayDo geometry z (call geometry e fetched z).now.side (guest_for e fetched z)) (call geometry e fetched z).now.effects }
+    ensures others { (geometry : Geometry) (e : Event) (fetched : List ℕ) (s z : Side) → AreSameButPlaces s z →
+        LeavesOthers (guest_for e fetched s) s (call geometry e fetched s).now.side →
+        LeavesOthers (guest_for e fetched z) z (call geometry e fetched z).now.side }
+    ensures contained { (host_bytes lanes : ℕ) (geometry : Geometry) (e : Event) (fetched : List ℕ) (s z : Side) →
+        IsLaidOut host_bytes lanes geometry → IsKept geometry s → AreSameButPlaces s z → IsContained geometry e fetched s → IsContained geometry e fetched z }
 {}
