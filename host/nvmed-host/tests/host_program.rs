@@ -177,9 +177,6 @@ fn an_idle_program_costs_little() {
     let spent = program.ticks() - before;
     println!("an idle program: {spent} hundredths of a second in 4 seconds");
     assert!(spent <= 12, "{spent} hundredths of a second in 4 seconds");
-    let status = std::fs::read_to_string(format!("/proc/{}/status", program.0.id())).unwrap();
-    let own = status.lines().find(|line| line.starts_with("RssAnon:")).unwrap();
-    println!("an idle program: {own}");
     guest.set_cc(0).unwrap();
     guest.await_ready(0).unwrap();
     let before = program.ticks();
@@ -188,4 +185,55 @@ fn an_idle_program_costs_little() {
         program.ticks() - before <= 1,
         "a page of a disabled controller is not looked at"
     );
+}
+
+/// What the program may need beside guests' memory and the drive's blocks: the mediator's area counts.
+const OWN: u64 = 16 << 20;
+
+/// Bytes of memory that no other process has, but for the files that are guests' memory.
+fn own_memory(maps: &str) -> u64 {
+    let mut own = 0;
+    let mut counts = true;
+    for line in maps.lines() {
+        let words: Vec<&str> = line.split_whitespace().collect();
+        match words[..] {
+            // the head of a mapping: its places, how it may be used, and its file if it has one
+            [places, mode, _, _, inode, ..] if places.contains('-') => counts = !(mode.ends_with('s') && inode != "0"),
+            ["Private_Clean:" | "Private_Dirty:" | "Swap:", kilobytes, "kB"] if counts => {
+                own += kilobytes.parse::<u64>().unwrap() << 10;
+            }
+            _ => {}
+        }
+    }
+    own
+}
+
+/// The drive is in a file, so that its blocks are no memory of the program's.
+#[test]
+fn its_own_memory_is_small() {
+    const GUESTS: usize = 16;
+    let folder = Folder::new("memory");
+    let image = folder.path("image");
+    let text =
+        configuration(&folder, GUESTS, "").replace("drive ram 16M", &format!("drive ram 64M {}", image.display()));
+    let program = Program::start(&folder, &text, &["--statistics"]);
+    let mut guests: Vec<_> = (0..GUESTS)
+        .map(|guest| connect(&folder, &format!("g{guest}")))
+        .collect();
+    if is_real() {
+        for guest in &mut guests {
+            guest.bring_up().unwrap();
+            for block in 0..60 {
+                guest.put(1, 1, 0x20_0000, [8 * block, 0, 7]).unwrap();
+            }
+            guest.ring(1, false).unwrap();
+            for _ in 0..60 {
+                assert_eq!(guest.await_done(1).unwrap().status, 0);
+            }
+        }
+    }
+    let own = own_memory(&program.about("smaps"));
+    println!("its own memory, with {GUESTS} guests: {} KiB", own >> 10);
+    assert!(own > 1 << 20, "nothing was counted");
+    assert!(own < OWN, "{own} bytes");
 }

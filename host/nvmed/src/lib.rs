@@ -6,7 +6,8 @@
 //!
 //! [`Mediator`] has the calls. A host makes one over its memory ([`HostMemory`], or [`Mappings`] where it has guests' memories by `vm-memory`) from a
 //! [`SetUp`]; makes the lanes' rings ([`Mediator::rings`]) I/O queues of its drive; passes on what guests do with registers and doorbells; does what is
-//! due ([`Mediator::work`]); and then writes the drive's doorbells and raises the guests' interrupts. `examples/small_host.rs` is such a host.
+//! due ([`Mediator::work`]); and then writes the drive's doorbells and raises the guests' interrupts. `examples/small_host.rs` is such a host, over a drive
+//! that it simulates by [`DriveLane`] and [`Mediator::pump`].
 //!
 //! # The library
 //!
@@ -22,6 +23,7 @@ compile_error!("the library has addresses and lengths of 64 bits");
 mod error;
 mod event;
 mod interrupts;
+mod lane;
 mod library;
 mod mappings;
 mod mediator;
@@ -35,6 +37,7 @@ mod sys;
 pub use error::Error;
 pub use event::{Event, Scope, Work, WorkEnd};
 pub use interrupts::{Seen, Vectors, VECTORS};
+pub use lane::{DriveLane, Entry};
 pub use library::{Library, Version, LIBRARY, PROVED};
 pub use mappings::Mappings;
 pub use mediator::Mediator;

@@ -1,7 +1,7 @@
 //! Memories of whole machines, as `vm-memory` has them, in the place of a row of the host's.
 
 use crate::memory::{is_in, HostMemory};
-use crate::{Region, AREA_BYTES_PER_LANE};
+use crate::{Extent, GuestSetUp, Region, SetUp, AREA_BYTES_PER_LANE};
 use vm_memory::bitmap::{Bitmap, BS};
 use vm_memory::mmap::{MmapRegionError, NewBitmap};
 use vm_memory::{
@@ -17,6 +17,7 @@ use vm_memory::{
 pub struct Mappings<B: Bitmap = ()> {
     guests: Vec<GuestMemoryMmap<B>>,
     area: MmapRegion<B>,
+    lanes: u32,
     base: usize,
     bytes: u64,
 }
@@ -35,6 +36,7 @@ impl<B: NewBitmap + 'static> Mappings<B> {
         let mut mappings = Mappings {
             guests,
             area,
+            lanes,
             base: 0,
             bytes: 0,
         };
@@ -72,6 +74,23 @@ impl<B: Bitmap + 'static> Mappings<B> {
         self.guests
             .get(guest)
             .map_or_else(Vec::new, |memory| memory.iter().map(of).collect())
+    }
+
+    /// The set-up of a mediator over this memory and a drive of so many blocks of 512 bytes: each guest has all of its memory, and the extents that `extents`
+    /// says for its number. All else is as [`GuestSetUp::default`] has it.
+    pub fn set_up(&self, disk_blocks: u64, extents: impl Fn(usize) -> Vec<Extent>) -> SetUp {
+        let guest = |number| GuestSetUp {
+            regions: self.regions(number),
+            extents: extents(number),
+            ..GuestSetUp::default()
+        };
+        SetUp {
+            host_bytes: self.bytes,
+            mediator: self.area(),
+            disk_blocks,
+            lanes: self.lanes,
+            guests: (0..self.guests.len()).map(guest).collect(),
+        }
     }
 
     /// The bytes of this host address and those after it, for a drive that this process simulates; `None` unless all lie in one mapping.

@@ -62,6 +62,13 @@ pub struct Extent {
     pub blocks: u64,
 }
 
+impl Extent {
+    /// So many blocks, from the block `base` on.
+    pub fn new(base: u64, blocks: u64) -> Self {
+        Extent { base, blocks }
+    }
+}
+
 /// A set-up in the lists that the library takes.
 pub(crate) struct Lists {
     pub(crate) sizes: sys::Sizes,

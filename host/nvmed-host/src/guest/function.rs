@@ -49,7 +49,8 @@ pub struct Function {
     mailbox: Sender,
 }
 
-/// What a function has, for a client: BAR0, with the doorbells in a page that it may map; configuration space; and interrupts.
+/// What a function has, for a client: BAR0, with the doorbells in a page that it may map; configuration space; interrupts, and one of errors, without which
+/// QEMU warns that it cannot enable error recovery.
 ///
 /// A function with an interrupt pin has no page: QEMU takes the page away with each interrupt of a pin, and doorbells by messages could overtake those in the page.
 ///
@@ -96,9 +97,16 @@ pub fn device(page: Option<&Page>, intx: bool) -> Result<Device, DeviceError> {
         automasked: false,
         noresize: false,
     };
+    let errors = Irq {
+        count: 1,
+        eventfd: true,
+        noresize: true,
+        ..Irq::NONE
+    };
     for (index, irq) in [
         (pci_irq::INTX, if intx { pin } else { Irq::NONE }),
         (pci_irq::MSIX, messages),
+        (pci_irq::ERR, errors),
     ] {
         if let Some(place) = irqs.get_mut(index as usize) {
             *place = irq;
@@ -272,6 +280,7 @@ impl Function {
         match request.index {
             pci_irq::INTX => self.set_pin(request),
             pci_irq::MSIX => self.set_messages(request),
+            // QEMU stops its machine for good where an error is signalled, so none is: where the drive has failed, commands end with an error that the guest sees
             _ => Ok(()),
         }
     }

@@ -44,6 +44,8 @@ pub const BAR0: u32 = 0;
 pub const CONFIG: u32 = 7;
 pub const INTX: u32 = 0;
 pub const MSIX: u32 = 2;
+/// The kind of interrupts that says that the device has failed.
+pub const ERR: u32 = 3;
 
 /// What QEMU 11.1.3 proposes with VERSION.
 pub const QEMU_CAPABILITIES: &str = concat!(

@@ -584,14 +584,17 @@ impl Client {
             .iter()
             .map(|index| self.region_info(*index))
             .collect::<io::Result<Vec<_>>>()?;
-        // QEMU looks at the interrupt of errors, and goes on where there is none.
-        let _ = self.irq_info(3);
+        // QEMU looks at the interrupt of errors, and goes on where there is none: of one it sets up the eventfd, once the device is there.
+        let errors = self.irq_info(ERR).map_or(0, |info| info.count);
         let config = self.read(CONFIG, 0, 256)?;
         for (offset, count) in [(0x30, 4), (0x10, 4), (0x18, 4)] {
             self.read(CONFIG, offset, count)?;
         }
         let msix = self.irq_info(MSIX)?;
         self.read(CONFIG, 0x3d, 1)?;
+        if errors == 1 {
+            self.set_eventfds(ERR, 0, &[eventfds(1)?.remove(0).as_fd()])?;
+        }
         self.reset()?;
         Ok(Found {
             capabilities,

@@ -48,3 +48,19 @@ fn an_area_that_is_too_large_or_empty_is_an_error() {
     assert!(Mappings::<()>::new(Vec::new(), u32::MAX).is_err());
     assert!(Mappings::<()>::new(Vec::new(), 0).is_err());
 }
+
+#[test]
+fn a_set_up_has_each_guest_with_its_memory() {
+    let mappings = two_machines();
+    let set_up = mappings.set_up(77, |guest| vec![Extent::new(10 * guest as u64, 5)]);
+    assert_eq!((set_up.host_bytes, set_up.mediator), (mappings.len(), mappings.area()));
+    assert_eq!((set_up.disk_blocks, set_up.lanes, set_up.guests.len()), (77, 1, 2));
+    for (number, guest) in set_up.guests.iter().enumerate() {
+        assert_eq!(guest.regions, mappings.regions(number));
+        let extent = Extent {
+            base: 10 * number as u64,
+            blocks: 5,
+        };
+        assert_eq!((&guest.extents[..], guest.descriptors), (&[extent][..], 1024));
+    }
+}

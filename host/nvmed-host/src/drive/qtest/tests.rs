@@ -39,6 +39,8 @@ struct State {
     commands: usize,
     /// No answers are sent, from the command with this number on.
     silent_from: usize,
+    /// It closes in the place of the answer that bus mastering is off.
+    closes_at_silence: bool,
     doorbells: Vec<(u64, u32)>,
 }
 
@@ -138,6 +140,7 @@ impl Bench {
             instead: None,
             commands: 0,
             silent_from: usize::MAX,
+            closes_at_silence: false,
             doorbells: Vec::new(),
         };
         change(&mut state);
@@ -170,6 +173,10 @@ impl Bench {
                 let mut s = state.lock().unwrap();
                 let number = s.commands;
                 s.commands += 1;
+                let is_silence = s.select & 0xff == 4 && line.starts_with("outl 0xcfc 0x400");
+                if s.closes_at_silence && is_silence {
+                    return;
+                }
                 let answer = if s.at == Some(number) {
                     match s.instead.clone() {
                         Some(bytes) => bytes,
@@ -308,25 +315,21 @@ fn a_fatal_status_leads_to_a_reset() {
 #[test]
 fn places() {
     // the last function of a bus; a BAR of 4 MiB; one of 32 bits, whose neighbor is another. Then the last command of all is not answered.
-    let mut commands = 0;
-    for round in 0..2 {
-        let bench = Bench::new(|s| {
-            (s.device, s.function, s.bar_bits, s.config[4]) = (31, 7, 0xffc0_0000, 0);
-            s.at = (round == 1).then(|| commands - 1);
-        });
+    for answers in [true, false] {
+        let bench = Bench::new(|s| (s.device, s.function, s.bar_bits, s.config[4]) = (31, 7, 0xffc0_0000, 0));
         let (drive, thread) = bench.open();
         assert!(drive.describe().contains("of QEMU at 00:1f.7: "));
         assert_eq!(
             (bench.seen().config[4], bench.seen().config[5]),
             (0xfe00_0000, 0x1234_5678)
         );
+        bench.state().closes_at_silence = !answers;
         let closed = drive.close();
-        assert_eq!(closed.is_ok(), round == 0);
+        assert_eq!(closed.is_ok(), answers);
         if let Err(why) = closed {
             assert!(why.to_string().contains("QEMU has closed it"), "{why}");
         }
         thread.join().unwrap();
-        commands = bench.seen().commands;
     }
 }
 

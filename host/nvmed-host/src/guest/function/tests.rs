@@ -163,11 +163,29 @@ fn messages_are_set_up_masked_and_triggered() {
     signals.publish(VectorSet::from_bits(0b10), VectorSet::from_bits(0b10));
     it.deliver().unwrap();
     assert!(!is(1));
-    // other kinds, and actions with eventfds that nobody needs
-    it.set_irqs(request(pci_irq::ERR, 0, 1, IrqAction::Trigger, IrqData::None))
-        .unwrap();
+    // actions with eventfds that nobody needs
     it.set_irqs(msix(0, 1, IrqAction::Mask, IrqData::Eventfds(Vec::new())))
         .unwrap();
+}
+
+/// QEMU sets it up, and would stop its machine where it is signalled.
+#[test]
+fn the_interrupt_of_errors_is_taken_and_never_signalled() {
+    let device = device(None, false).unwrap();
+    let errors = device.irqs()[pci_irq::ERR as usize];
+    assert!(errors.count == 1 && errors.eventfd && errors.noresize && !errors.maskable);
+    let (mut it, receiver, signals) = ready(false);
+    let error = eventfd();
+    let set = |data| request(pci_irq::ERR, 0, 1, IrqAction::Trigger, data);
+    it.set_irqs(set(IrqData::Eventfds(vec![copy(&error)]))).unwrap();
+    it.set_irqs(set(IrqData::None)).unwrap();
+    signals.publish(VectorSet::from_bits(1), VectorSet::from_bits(1));
+    it.deliver().unwrap();
+    // the mediator ends, as after a drive that has failed
+    drop(receiver);
+    assert!(it.reset().is_err());
+    it.set_irqs(set(IrqData::Eventfds(Vec::new()))).unwrap();
+    assert!(error.read().is_err(), "it was signalled");
 }
 
 #[test]
