@@ -3,6 +3,7 @@ use Rattle.std.proofs.Common.{◌≡◌, ℕ, zero, suc, ◌+◌, ◌*◌, ◌/�
 use Rattle.std.proofs.Common.{length, slice_get, Some, arith, refl, sym, ap, ◌∙◌, subst, mod-lt, eq-eqb}
 use Rattle.std.specs.List.{list_any, range_with_len}
 use Rattle.std.proofs.lemmas.Bool.{cases_lt}
+use Rattle.std.proofs.lemmas.List.{length-map}
 use Rattle.std.proofs.lemmas.List.Elements.{All-map, All-nil}
 use Rattle.nv_entry.specs.Layout.{bits, dword}
 use Rattle.nv_entry.specs.Opcode.{io_opcode}
@@ -13,15 +14,16 @@ use Rattle.nv_laws_sound.specs.Area.{Shows, ranges_of}
 use Rattle.nv_laws_sound.specs.Consistent.{IsInDevice, IsPlanned}
 use Rattle.nv_laws_sound.specs.LaidOut.{IsLaidOut}
 use Rattle.nv_laws_sound.proofs.EntryFields.{dword-there, entry-cid, own_units}
-use Rattle.nv_laws_sound.proofs.HeldEntries.{held-all, held-left, held-places, physical-opcode}
+use Rattle.nv_laws_sound.proofs.HeldEntries.{held-all, held-left, held-places, physical-opcode, plan-counts, plan-lengths}
 use Rattle.nv_laws_sound.proofs.Lists.{some-same}
 use Rattle.nv_laws_sound.proofs.Named.{hosts-all, row-all}
 use Rattle.nv_laws_sound.proofs.OnDisk.{blocks-counted, entry-own, entry-units, range-own}
-use Rattle.nv_laws_sound.proofs.PlanSizes.{entry-length, own-few, own_work, planned-kinds}
+use Rattle.nv_laws_sound.proofs.OwnWork.{own_len}
+use Rattle.nv_laws_sound.proofs.PlanSizes.{entry-length, own-few, own_work, planned-by, planned-kinds}
 use Rattle.nv_machine.specs.Entries.{AreBlocksOf, IsOwnByte, IsOwnEntry, NamesOwn}
 use Rattle.nv_mem.proofs.Images.{guest_of-host}
 use Rattle.nv_mem.specs.Places.{At, places_of, total_len}
-use Rattle.nv_model.specs.Judge.{Clear, Form, Keep, Manage, Transfer, Work, count_of, form_has_blocks, form_of, has_blocks, range_count_of}
+use Rattle.nv_model.specs.Judge.{Clear, Form, Keep, Manage, Transfer, Work, count_of, form_has_blocks, form_has_buffer, form_of, has_blocks, has_buffer, range_count_of, transfer_len}
 use Rattle.nv_model.specs.Limits.{most_bytes}
 use Rattle.nv_world_model.specs.Area.{addresses_of, bounce_page, list_bytes, list_page, physical_entry, prps_of, tag_count}
 use Rattle.nv_world_model.specs.Device.{form_unit_count, held_of, range_at}
@@ -84,6 +86,13 @@ units-of_blocks Clear own has = refl
 units-of_blocks Manage own has = cc
 units-of_blocks Keep own has = cc
 
+-- one without a buffer transfers nothing
+none-moved : (form : Form) (own : Work) → form_has_buffer form ≡ false → own_len form own ≡ 0
+none-moved (Transfer dest) own has = cc
+none-moved Clear own has = refl
+none-moved Manage own has = cc
+none-moved Keep own has = refl
+
 -- ---- the entry
 
 module _ (host_bytes lanes : ℕ) (geometry : Geometry) (laid : IsLaidOut host_bytes lanes geometry) (owner : ℕ) (guest : Guest)
@@ -134,6 +143,26 @@ module _ (host_bytes lanes : ℕ) (geometry : Geometry) (laid : IsLaidOut host_b
           (sym (held-places host_bytes lanes geometry laid owner guest given lane tag below tag_below entry share is some host listed))
           (All-map (NamesOwn geometry guest lane tag) At (addresses_of share.plan guest bounce) addresses-own)
 
+      -- as many as bytes are transferred
+      lengths-are : transfer_len is.work.opcode physical ≡ own_len (form_of is.work.opcode) own
+      lengths-are = (plan-lengths host_bytes lanes geometry laid owner guest given lane tag below tag_below entry share is some host).0
+
+      addresses-each : length (addresses_of share.plan guest bounce) ≡ own_len (form_of is.work.opcode) own
+      addresses-each =
+          (elim (has_buffer is.work.opcode) as (λ b. has_buffer is.work.opcode ≡ b
+          → length (addresses_of share.plan guest bounce) ≡ own_len (form_of is.work.opcode) own) [
+            | true ↦ λ has. plan-counts host_bytes lanes geometry laid owner guest given lane tag below tag_below entry share is some host has
+            | false ↦ λ none.
+                planned-by (λ p. length (addresses_of p guest bounce) ≡ 0) guest entry share is (λ _. refl)
+                (λ has fits. (let bad : true ≡ false = sym has ∙ none in cc)) (λ has. (let bad : true ≡ false = sym has ∙ none in cc))
+                ∙ sym (none-moved (form_of is.work.opcode) own none)
+          ]) refl
+
+      places-each : (opcode : IoOpcode) → io_opcode (opcode_of physical) ≡ Some opcode → length (places_of (held_of physical host).pieces) ≡ transfer_len opcode physical
+      places-each opcode names =
+          ap length (held-places host_bytes lanes geometry laid owner guest given lane tag below tag_below entry share is some host listed)
+          ∙ length-map (addresses_of share.plan guest bounce) At ∙ addresses-each ∙ sym lengths-are ∙ ap (λ o. transfer_len o physical) (opcode-is opcode names)
+
       in-device : Shows host bounce (ranges_of share.plan guest) → IsInDevice geometry guest entry share lane tag host (held_of physical host)
       unfolding held_of
       in-device ranged =
@@ -162,6 +191,7 @@ module _ (host_bytes lanes : ℕ) (geometry : Geometry) (laid : IsLaidOut host_b
           fuse = entry-fuse share guest entry geometry.mediator lane tag tag_below;
           psdt = entry-psdt share guest entry geometry.mediator lane tag tag_below;
           bytes = places-own;
+          each = places-each;
           blocks = λ opcode names has. blocks-own (ap has_blocks (opcode-is opcode names) ∙ has);
           managed = λ host listed ranged opcode names manages number few. ranges-own host listed ranged (ap form_of (opcode-is opcode names) ∙ manages) number few;
         }

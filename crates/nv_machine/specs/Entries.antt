@@ -13,7 +13,7 @@ use Rattle.nv_machine.specs.Doing.{tag_at}
 use Rattle.nv_machine.specs.Effects.{Effect, Store}
 use Rattle.nv_machine.specs.Machine.{share_effects}
 use Rattle.nv_mem.specs.Places.{At, Bucket, Place, places_of}
-use Rattle.nv_model.specs.Judge.{Manage, count_of, form_of, has_blocks, range_count_of}
+use Rattle.nv_model.specs.Judge.{Manage, count_of, form_of, has_blocks, range_count_of, transfer_len}
 use Rattle.nv_model.specs.Limits.{page}
 use Rattle.nv_model.specs.Queue.{sqe_size}
 use Rattle.nv_model.specs.Transcript.{ReadDone}
@@ -55,6 +55,9 @@ pub record IsOwnEntry (geometry : Geometry) (given : Guest) (lane tag : ℕ) (li
   -- whatever else is in memory, each place that its PRPs and the list name is an own byte (Base Specification 2.0, "Physical Region Page Entry and List")
   pub bytes : (host : ℕ → ℕ) → Shows host (list_page geometry.mediator lane tag) list
       → All (NamesOwn geometry given lane tag) (places_of (held_of entry host).pieces)
+  -- and there is one for each byte of its transfer, so that none is left to chance
+  pub each : (host : ℕ → ℕ) → Shows host (list_page geometry.mediator lane tag) list → (opcode : IoOpcode) → io_opcode (opcode_of entry) ≡ Some opcode
+      → length (places_of (held_of entry host).pieces) ≡ transfer_len opcode entry
   -- the blocks of SLBA and NLB lie in the guest's extents (NVM Command Set Specification 1.0, "NVM Command Set Commands")
   pub blocks : (opcode : IoOpcode) → io_opcode (opcode_of entry) ≡ Some opcode → has_blocks opcode ≡ true
       → AreBlocksOf given.namespace (slba_of entry) (count_of entry)

@@ -1,23 +1,27 @@
 -- Worked examples: the mediator's side that calls start from, and what is seen of a call. Two guests have their memory in the host at 100000h and 200000h and
 -- 64 blocks of the disk from 1000 and 2000 on; the mediator's area begins at 400000h. So lane 0 has its submission ring at 400000h, its completion ring at
 -- 402000h, and of tag 0 the list page at 403000h and bounce pages from 404000h on; tag 1 has them at 424000h and from 425000h on (profile).
-use Rattle.std.specs.Prelude.{ℕ, false, List, [], ◌∷◌, ◌++◌, drop, replicate, slice_set, true, Option, Some, None}
+use Rattle.std.specs.Prelude.{ℕ, Bool, false, List, [], ◌∷◌, ◌++◌, drop, map, replicate, slice_set, true, Option, Some, None}
 use Rattle.nv_entry.specs.Status.{StatusField, status}
 use Rattle.nv_entry.specs.declared.opcode.IoOpcode.TheVariants as opcode
 use Rattle.nv_laws_sound.specs.Side.{Side}
+use Rattle.nv_machine.specs.Alike.{IsAlike}
 use Rattle.nv_machine.specs.Effects.{Effect}
+use Rattle.nv_machine.specs.Entries.{IsOwnEntry}
 use Rattle.nv_machine.specs.Machine.{call, fetch, fetch_then}
+use Rattle.nv_machine.specs.Order.{IsInOrder}
 use Rattle.nv_mem.specs.declared.piece.Piece.TheVariants as piece
 use Rattle.nv_model.specs.Controller.{Controller, no_queues, opening}
 use Rattle.nv_model.specs.Judge.{MoveBlock}
 use Rattle.nv_model.specs.Queue.{new_completion, new_submission}
-use Rattle.nv_model.specs.Rows.{by_prp, by_sgl, data_block}
+use Rattle.nv_model.specs.Rows.{by_prp, by_sgl, command, data_block, prps}
 use Rattle.nv_model.specs.RowsRuns.{admin_entry}
 use Rattle.nv_model.specs.declared.reply.Reply.{Reply}
 use Rattle.nv_world_model.specs.Plan.{Bounced, Plan}
 use Rattle.nv_world_model.specs.Rows.{controller_with, set_up}
+use Rattle.nv_world_model.specs.RowsShown.{second_guest}
 use Rattle.nv_world_model.specs.Share.{Share}
-use Rattle.nv_world_model.specs.World.{Command, Ended, Flying, Free, Queued, Tag, Taken, opening_lane}
+use Rattle.nv_world_model.specs.World.{Command, Ended, Flying, Free, Lane, Queued, Tag, Taken, opening_lane}
 use Rattle.nv_world_model.specs.declared.event.Event.{Event}
 
 -- ---- what is seen
@@ -150,3 +154,50 @@ one_admin = record at_rest { controllers = controller_with 16 0 ∷ with_admin �
 -- an Identify of the active namespaces with command identifier 9, into the page at 4000h
 abbrev pub identify_active : List ℕ
 identify_active = admin_entry 0x06 9 0 0x4000 0 0x02 0
+
+-- ---- words of the laws
+
+-- an entry of 64 bytes in namespace 1, with that dword 0, PRP1 and CDW10 to CDW12; all other fields are 0
+abbrev pub entry_of : (dword0 prp1 cdw10 cdw11 cdw12 : ℕ) → List ℕ
+entry_of dword0 prp1 cdw10 cdw11 cdw12 = command dword0 1 (prps prp1 0) cdw10 cdw11 cdw12
+
+-- it names bytes and blocks of the second guest alone, in tag 0 of lane 0 with an empty list, and these ranges in the bounce pages
+abbrev pub IsSeconds : (ranges entry : List ℕ) → Type 0
+IsSeconds ranges entry = IsOwnEntry set_up second_guest 0 0 [] ranges entry
+
+-- a command of the first guest, in tag 0
+abbrev pub of_first : (entry : List ℕ) → Command
+of_first entry = record { guest = 0; queue = 1; entry = entry; leader = 0 }
+
+-- two sides are alike to the second guest
+abbrev pub AreAlikeToSecond : (s z : Side) → Type 0
+AreAlikeToSecond s z = IsAlike 1 s z
+
+-- the same side with that head of its lanes
+abbrev pub head_put : (head : ℕ) → Lane → Lane
+head_put head l = record l { head = head }
+
+abbrev pub with_head : (head : ℕ) → Side → Side
+with_head head s = record s { lanes = map (head_put head) s.lanes }
+
+-- the same side in a pass with that phase tag
+abbrev pub phase_put : (phase : Bool) → Lane → Lane
+phase_put phase l = record l { phase = phase }
+
+abbrev pub with_phase : (phase : Bool) → Side → Side
+with_phase phase s = record s { lanes = map (phase_put phase) s.lanes }
+
+-- the same controller with an admin completion queue of two slots, of which one is written and not acknowledged
+abbrev pub full_admin : Side
+full_admin =
+    record one_admin {
+      controllers =
+          controller_with 16 0
+          ∷ record with_admin {
+            completion_queues = slice_set no_queues 0 (Some (record (new_completion 0x11000 2 (Some 0)) { tail = 1 }));
+          } ∷ [];
+    }
+
+-- effects of a Post for the second guest in order, in which there is no data
+abbrev pub IsCompletionAlone : List Effect → Type 0
+IsCompletionAlone effects = IsInOrder (λ e. ⊥) second_guest (controller_with 16 1) (Some (controller_with 16 1)) effects

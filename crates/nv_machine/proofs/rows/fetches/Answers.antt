@@ -103,3 +103,31 @@ unfolding number_at dword qword bits bytes_of_dwords completion everywhere addre
     reg_write doorbell front took post ran_out admin_command structure hosts_of fit_behind built plan_over physical_entry claimed tags_put called
     fetch fetch_then handed_on statuses_of
 returns-clause-no_post c = refl
+
+pub returns-clause-nothing_in_another_pass : goal.returns-clause-nothing_in_another_pass
+unfolding number_at dword qword bits bytes_of_dwords completion everywhere addresses bytes_from gathered image scattered stored in_memory and_then
+    first_read in_transcript read_array read_sgl read_entries read_source ranges_in move_units clear_units range_units judge opening register
+    reg_write doorbell front took post ran_out admin_command structure hosts_of fit_behind built plan_over physical_entry claimed tags_put called
+    fetch fetch_then handed_on statuses_of
+returns-clause-nothing_in_another_pass c = refl
+
+pub returns-clause-the_rest_in_another_pass : goal.returns-clause-the_rest_in_another_pass
+unfolding number_at dword qword bits bytes_of_dwords completion everywhere addresses bytes_from gathered image scattered stored in_memory and_then
+    first_read in_transcript read_array read_sgl read_entries read_source ranges_in move_units clear_units range_units judge opening register
+    reg_write doorbell front took post ran_out admin_command structure hosts_of fit_behind built plan_over physical_entry claimed tags_put called
+    fetch fetch_then handed_on statuses_of
+returns-clause-the_rest_in_another_pass c = refl
+
+pub returns-clause-no_take_of_admin_commands : goal.returns-clause-no_take_of_admin_commands
+unfolding number_at dword qword bits bytes_of_dwords completion everywhere addresses bytes_from gathered image scattered stored in_memory and_then
+    first_read in_transcript read_array read_sgl read_entries read_source ranges_in move_units clear_units range_units judge opening register
+    reg_write doorbell front took post ran_out admin_command structure hosts_of fit_behind built plan_over physical_entry claimed tags_put called
+    fetch fetch_then handed_on statuses_of
+returns-clause-no_take_of_admin_commands c = refl
+
+pub returns-clause-no_admin_command : goal.returns-clause-no_admin_command
+unfolding number_at dword qword bits bytes_of_dwords completion everywhere addresses bytes_from gathered image scattered stored in_memory and_then
+    first_read in_transcript read_array read_sgl read_entries read_source ranges_in move_units clear_units range_units judge opening register
+    reg_write doorbell front took post ran_out admin_command structure hosts_of fit_behind built plan_over physical_entry claimed tags_put called
+    fetch fetch_then handed_on statuses_of
+returns-clause-no_admin_command c = refl

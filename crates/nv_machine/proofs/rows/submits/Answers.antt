@@ -82,3 +82,10 @@ unfolding number_at dword qword bits bytes_of_dwords completion everywhere addre
     reg_write doorbell front took post ran_out admin_command structure hosts_of fit_behind built plan_over physical_entry claimed tags_put called
     fetch fetch_then handed_on statuses_of
 returns-clause-a_bounced_write c = refl
+
+pub returns-clause-a_bounced_read : goal.returns-clause-a_bounced_read
+unfolding number_at dword qword bits bytes_of_dwords completion everywhere addresses bytes_from gathered image scattered stored in_memory and_then
+    first_read in_transcript read_array read_sgl read_entries read_source ranges_in move_units clear_units range_units judge opening register
+    reg_write doorbell front took post ran_out admin_command structure hosts_of fit_behind built plan_over physical_entry claimed tags_put called
+    fetch fetch_then handed_on statuses_of
+returns-clause-a_bounced_read c = refl
