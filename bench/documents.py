@@ -41,10 +41,11 @@ LONG = 200
 LONG_LINES = 300
 # what is promised of a host, in the same words on each of these pages
 HOSTS = (
-    "Proved: whatever guests and the drive have left in memory when a call begins, the call is safe, ends, and does what the definition's step does with those "
-    "bytes, as long as nobody else writes there until it returns (IsDone of nv_host). Proved where a log of the definition's events leads to that moment: nothing of "
-    "another guest's is read, changed or named to the drive (IsPromised of nv_host). A host with a real drive, or with guests that run meanwhile, isn't at such a "
-    "moment at every call."
+    "Proved: whatever guests and the drive have left in memory when a call begins, the call is safe, ends, and does what the definition's step does with "
+    "those bytes, as long as nobody else writes there until it returns (IsDone of nv_host). Then it changes nothing of another guest's, depends on nothing "
+    "of another's, and names nothing of another's to the drive (the_code_is_contained of nv_laws_machine). Proved where a log of the definition's events "
+    "leads to that moment: what a disciplined guest has seen, and has, is a run of its private controller (IsPromised of nv_host). A host with a real "
+    "drive, or with guests that run meanwhile, isn't at such a moment at every call."
 )
 HOSTS_PAGES = ("README.md", "docs/PROMISES.md", "docs/EMBEDDING.md", "docs/HOSTING.md", "include/nvmed.h")
 PERF = "Start: 4466b48d1733cc7975d6a2b277906902cf51a675 is the last commit landed before the work for speed began."

@@ -26,16 +26,17 @@
  * Where the memory and the drive are the host's (nvmed_serve), the following holds, and no more.
  *
  * Proved: whatever guests and the drive have left in memory when a call begins, the call is safe, ends, and does what the definition's step does with
- * those bytes, as long as nobody else writes there until it returns (IsDone of nv_host). Proved where a log of the definition's events leads to that
- * moment: nothing of another guest's is read, changed or named to the drive (IsPromised of nv_host). A host with a real drive, or with guests that run
- * meanwhile, isn't at such a moment at every call.
+ * those bytes, as long as nobody else writes there until it returns (IsDone of nv_host). Then it changes nothing of another guest's, depends on nothing of
+ * another's, and names nothing of another's to the drive (the_code_is_contained of nv_laws_machine). Proved where a log of the definition's events leads
+ * to that moment: what a disciplined guest has seen, and has, is a run of its private controller (IsPromised of nv_host). A host with a real drive, or
+ * with guests that run meanwhile, isn't at such a moment at every call.
  *
  *   Every case  SAFE. EXACT of one call: its answer, the mediator and the memory after it are those of the definition's step in every world that has this
  *               mediator and this memory. Of REAP this is said of worlds that events of the definition lead to; in every case its answer follows from the
- *               lane and the completion that is read next. nvmed_work is a row of such steps. Of other guests this says what the definition's step says: a
- *               reader finds there that a step uses its own guest's controller, map, tags and pages and the shared numbers, but no contract states it.
- *   A log       CONTAINED and PRIVATE, and EXACT of all calls together, hold of each log of the definition's events that leads to the mediator and the
- *               memory. There is one only where, between two calls, the drive has moved whole blocks, its completions have zeros in DW0, DW1, More and
+ *               lane and the completion that is read next. nvmed_work is a row of such steps. CONTAINED of each call, with the bytes that are in memory when
+ *               it begins: of the memory, of the tags and their pages, of what is named to the drive. No event has to have led there.
+ *   A log       PRIVATE, CONTAINED as of worlds, and EXACT of all calls together, hold of each log of the definition's events that leads to the mediator and
+ *               the memory. There is one only where, between two calls, the drive has moved whole blocks, its completions have zeros in DW0, DW1, More and
  *               CRD and the submission queue head that the definition has, deallocated blocks read zeros, each guest wrote its own memory alone, nobody
  *               else wrote, and nothing has changed while a call ran. NVMe lets a drive do otherwise, and guests on other processors store at any time.
  *   Assumed     SAFE, too, needs that nobody else writes while a call runs, or that the compiler reads once what the code reads once: a test of one binary
@@ -47,7 +48,7 @@
  *     may go from thread to thread, with a lock or a join between the calls: that is tested (examples/threads.c), not proved.
  *   - A handle is zero before its first use (NVMED_INIT), and is not copied while it holds a mediator.
  *   - The memory that is lent to nvmed_serve stays there until nvmed_free: host_bytes of address space. Only what regions and the mediator's area name is
- *     written (proved where a log leads there). That nothing else is read, so that the rest may be holes, is tested: no contract speaks of reads.
+ *     written (proved). That nothing else is read, so that the rest may be holes, is tested: no contract speaks of reads.
  *   - malloc, realloc and free come from one allocator. No call is made from a signal handler.
  *
  * For a null pointer a call returns NVMED_NULL and does nothing else. A null pointer with a length of 0 is an empty list. The lines of this file that

@@ -6,34 +6,49 @@ source "$top/bench/vm/linux.sh"
 
 minutes=${2:-60}
 limit=$((minutes * 60 + 600))
-# by this minute all that the program needs is there; a short run takes its first minute
-steady=$((minutes > 10 ? 10 : 1))
+# by this minute all that the program needs is there
+steady=$((minutes > 20 ? 10 : 2))
 # that its memory may grow after that, in KiB
-growth=1024
+growth=512
 
 # A figure of the program's, from the kernel's page on it.
 figure() {
     sed -n "s/^$1:[[:space:]]*\([0-9]*\).*/\1/p" "/proc/$host/status"
 }
 
-# Prints a line a minute: memory of its own, pages of guests and of the drive's image that it has touched, both in KiB, descriptors, seconds of processor time,
-# threads.
+# Memory of the program's own, in KiB: first the largest piece, which the mediator and its lanes have from the beginning and touch as they need it, and the rest,
+# which is the program's heap and its threads' stacks.
+own_memory() {
+    awk '/^[0-9a-f]+-[0-9a-f]+ /{ anonymous = $2 == "rw-p" && $5 == 0 } /^Size:/{ size = $2 } /^Anonymous:/{ all += $2; if (anonymous && size > largest) { largest = size; kept = $2 } }
+        END { print kept, all - kept }' "/proc/$host/smaps"
+}
+
+# Prints a line a minute: memory of the mediator and of the program, pages of guests and of the drive's image that it has touched, in KiB; the most descriptors and
+# threads that it had in this minute; and its seconds of processor time.
 sample() {
-    local minute
+    local minute mediator own descriptors threads now
     for ((minute = 1; minute <= minutes; minute++)); do
-        while ((SECONDS < minute * 60)); do sleep 0.5; done
+        descriptors=0
+        threads=0
+        while ((SECONDS < minute * 60)); do
+            sleep 0.5
+            now=$(find "/proc/$host/fd" -mindepth 1 2> /dev/null | wc -l)
+            ((descriptors >= now)) || descriptors=$now
+            now=$(figure Threads)
+            ((threads >= ${now:-0})) || threads=$now
+        done
         kill -0 "$host" 2> /dev/null || return 1
-        echo "minute $minute own $(figure RssAnon) shared $(($(figure RssFile) + $(figure RssShmem)))" \
-            "descriptors $(find "/proc/$host/fd" -mindepth 1 | wc -l)" \
-            "processor $(awk -v tick="$(getconf CLK_TCK)" '{ print int(($14 + $15) / tick) }' "/proc/$host/stat")" \
-            "threads $(figure Threads)" | tee -a "$room/samples"
+        read -r mediator own <<< "$(own_memory)"
+        echo "minute $minute mediator $mediator own $own shared $(($(figure RssFile) + $(figure RssShmem))) descriptors $descriptors threads $threads" \
+            "processor $(awk -v tick="$(getconf CLK_TCK)" '{ print int(($14 + $15) / tick) }' "/proc/$host/stat")" | tee -a "$room/samples"
     done
 }
 
-# Whether the last value of a column is no larger than that of the steady minute and so much more.
+# Whether the largest value of a column in the second half of the minutes from the steady one on is no larger than that in the first half and so much more.
 is_constant() {
-    awk -v column="$1" -v steady="$steady" -v more="$2" '$2 == steady { first = $column } { last = $column } END { exit !(NR >= 2 && last <= first + more) }' \
-        "$room/samples"
+    awk -v column="$1" -v steady="$steady" -v minutes="$minutes" -v more="$2" '
+        $2 >= steady { half = $2 * 2 > steady + minutes; if ($column > most[half]) most[half] = $column }
+        END { exit !(NR == minutes && most[0] > 0 && most[1] > 0 && most[1] <= most[0] + more) }' "$room/samples"
 }
 
 run() {
@@ -54,8 +69,8 @@ run() {
     check "guest 2, which is hostile, has its controller still" hostile_ended
     check "the host program" end_host
     # under valgrind most of it is valgrind's
-    [[ ${#wrapper[@]} != 0 ]] || check "its memory is constant from minute $steady on" is_constant 4 "$growth"
-    check "so are its descriptors" is_constant 8 0
+    [[ ${#wrapper[@]} != 0 ]] || check "its memory is constant from minute $steady on" is_constant 6 "$growth"
+    check "so are its descriptors" is_constant 10 0
     check "so are its threads" is_constant 12 0
     check "the blocks that are no guest's" gaps_are_painted
     echo "rounds of guests 0 and 1: $(grep -c '^round ' "$room/serial.0"), $(grep -c '^round ' "$room/serial.1")"

@@ -2,10 +2,10 @@
 use Rattle.std.proofs.Common.{◌≡◌, ℕ, zero, suc, ◌+◌, List, [], ◌∷◌, ◌++◌, length, map, take, Option, arith, refl, sym, ap, ◌∙◌, subst}
 use Rattle.std.proofs.lemmas.List.{length-append}
 use Rattle.nv_core.proofs.Alike.{kept-alike}
-use Rattle.nv_laws_machine.specs.Calls.{AreCalls, IsCall, Reaps, Steps}
+use Rattle.nv_laws_machine.specs.Calls.{AreCalls, IsCall, Reaps, Shuts, Steps}
 use Rattle.nv_laws_machine.proofs.Reaps.{reap-machines}
 use Rattle.nv_laws_machine.proofs.Tied.{step-machines}
-use Rattle.nv_laws_machine.specs.Made.{AreMachines, IsMachines, Made, fetched_from, side_behind}
+use Rattle.nv_laws_machine.specs.Made.{AreMachines, Closes, IsMachines, IsOne, Machines, Made, fetched_from, side_behind}
 use Rattle.nv_laws_sound.specs.LaidOut.{IsLaidOut}
 use Rattle.nv_laws_sound.specs.Side.{AreKept, Side, opening_side}
 use Rattle.nv_laws_sound.specs.Unplaced.{unplaced_lane}
@@ -64,11 +64,16 @@ module _ (host_bytes lanes : ℕ) (geometry : Geometry) (laid : IsLaidOut host_b
             ∙ length-map unplaced_lane c.now.side.lanes ∙ behind.many;
       }
 
+  -- and so does a close
+  one-reached : (s : Side) (made : Made) → IsReached lanes geometry s → IsOne geometry s made → IsReached lanes geometry made.side
+  one-reached s made reached (Machines is) = made-reached s made.side made.event made.before made.after made.reply reached is
+  one-reached s made reached (Closes is) =
+      record { kept = is.kept; on_pages = subst AreOnPages (sym is.controllers) reached.on_pages; many = is.many ∙ reached.many }
+
   all-reached : (made : List Made) (s : Side) → IsReached lanes geometry s → AreMachines geometry made s → IsReached lanes geometry (side_behind made s)
   unfolding AreMachines side_behind
   all-reached [] s reached are = reached
-  all-reached (made ∷ more) s reached are =
-      all-reached more made.side (made-reached s made.side made.event made.before made.after made.reply reached are.0) are.1
+  all-reached (made ∷ more) s reached are = all-reached more made.side (one-reached s made reached are.0) are.1
 
   pub each-contained : (made : List Made) → AreMachines geometry made (opening_side geometry lanes) → (e : Event) (fetched : List ℕ)
       → IsContained geometry e fetched (side_behind made (opening_side geometry lanes))
@@ -78,23 +83,23 @@ module _ (host_bytes lanes : ℕ) (geometry : Geometry) (laid : IsLaidOut host_b
 
   -- ---- by the contracts of the code
 
-  call-machines : (s : Side) (made : Made) → IsReached lanes geometry s → IsCall geometry s made
-      → IsMachines geometry made.event s made.before made.reply made.side made.after
+  call-machines : (s : Side) (made : Made) → IsReached lanes geometry s → IsCall geometry s made → IsOne geometry s made
   call-machines s made reached (Steps r mine other replied steps) =
       let here : IsLaidOut host_bytes (length s.lanes) geometry = subst (λ (n : ℕ). IsLaidOut host_bytes n geometry) (sym reached.many) laid in
-      subst (λ (o : Option Reply). IsMachines geometry made.event s made.before o made.side made.after) (sym replied)
-      (step-machines host_bytes geometry s made.side made.before made.after r made.event mine other here reached.kept reached.on_pages steps)
+      Machines (subst (λ (o : Option Reply). IsMachines geometry made.event s made.before o made.side made.after) (sym replied)
+      (step-machines host_bytes geometry s made.side made.before made.after r made.event mine other here reached.kept reached.on_pages steps))
   call-machines s made reached (Reaps lane is answers ended same tails memory) =
-      subst (λ (m : List ℕ). IsMachines geometry made.event s made.before made.reply made.side m) (sym memory)
+      Machines (subst (λ (m : List ℕ). IsMachines geometry made.event s made.before made.reply made.side m) (sym memory)
       (subst (λ (e : Event). IsMachines geometry e s made.before made.reply made.side made.before) (sym is)
-      (reap-machines geometry s made.side made.before lane made.reply answers ended same tails))
+      (reap-machines geometry s made.side made.before lane made.reply answers ended same tails)))
+  call-machines s made reached (Shuts is) = Closes is
 
   all-machines : (made : List Made) (s : Side) → IsReached lanes geometry s → AreCalls geometry made s → AreMachines geometry made s
   unfolding AreMachines AreCalls
   all-machines [] s reached are = tt
   all-machines (made ∷ more) s reached are =
       let is = call-machines s made reached are.0 in
-      (is, all-machines more made.side (made-reached s made.side made.event made.before made.after made.reply reached is) are.1)
+      (is, all-machines more made.side (one-reached s made reached is) are.1)
 
   pub calls-machines : (made : List Made) → AreCalls geometry made (opening_side geometry lanes) → AreMachines geometry made (opening_side geometry lanes)
   calls-machines made are = all-machines made (opening_side geometry lanes) (opening-reached geometry lanes) are

@@ -1,7 +1,7 @@
 -- A call of the mediator's code, which is lent a memory, as a call of the machine without memory (profile).
-use Rattle.std.specs.Prelude.{◌≡◌, ℕ, List, [], ◌∷◌, ◌++◌, map, Option}
+use Rattle.std.specs.Prelude.{◌≡◌, ℕ, List, [], ◌∷◌, ◌++◌, length, map, Option}
 use Rattle.std.specs.Bool.{⊤}
-use Rattle.nv_laws_sound.specs.Side.{Side}
+use Rattle.nv_laws_sound.specs.Side.{IsKept, Side}
 use Rattle.nv_machine.specs.Effects.{effects_on}
 use Rattle.nv_machine.specs.Machine.{call, fetch, fetch_then}
 use Rattle.nv_machine.specs.Unplaced.{AreSameButPlaces}
@@ -31,11 +31,21 @@ pub record Made : Type 0 where
   pub side : Side
   pub after : List ℕ
 
--- calls from a side on, each of which is the machine's. Between two calls guests and the physical controller leave in memory what they like
+-- a lane was closed: the side keeps what it keeps, and the guests' controllers are as they were
+pub record IsClosing (geometry : Geometry) (old new : Side) : Type 0 where
+  pub kept : IsKept geometry new
+  pub controllers : new.controllers ≡ old.controllers
+  pub many : length new.lanes ≡ length old.lanes
+
+-- a call is the machine's, or it has closed a lane
+pub data IsOne (geometry : Geometry) (old : Side) (made : Made) : Type 0 where
+  Machines : IsMachines geometry made.event old made.before made.reply made.side made.after → IsOne geometry old made
+  Closes : IsClosing geometry old made.side → IsOne geometry old made
+
+-- calls from a side on, each of which is such a one. Between two calls guests and the physical controller leave in memory what they like
 unfoldable pub AreMachines : Geometry → List Made → Side → Type 0
 AreMachines geometry [] s = ⊤
-AreMachines geometry (made ∷ more) s =
-    IsMachines geometry made.event s made.before made.reply made.side made.after × AreMachines geometry more made.side
+AreMachines geometry (made ∷ more) s = IsOne geometry s made × AreMachines geometry more made.side
 
 -- the side behind them
 unfoldable pub side_behind : List Made → Side → Side

@@ -41,3 +41,6 @@ pub mod AlikeCalls
 pub mod PlaceSides
 pub mod PlaceActs
 pub mod PlaceCalls
+pub mod PlaceKept
+pub mod PlacePuts
+pub mod PlaceContained

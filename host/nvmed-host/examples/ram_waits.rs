@@ -4,13 +4,8 @@
 //!
 //! Both guests' commands come by the same lane. One thread rings doorbells and lets the drive work, as the mediator's thread does; the times are from the
 //! doorbell to the completion of commands of 4 KiB. Without FILE the drive is in memory; FILE is created and removed again. The drive has 488 MiB.
-//!
-//! A busy machine makes threads wait for a processor. So there is the time, too, without that for which this process's threads were ready and had none, as the
-//! kernel counts it (`/proc/self/task/TID/schedstat`).
 
 use std::collections::HashMap;
-use std::fs::File;
-use std::os::unix::fs::FileExt;
 use std::path::PathBuf;
 use std::sync::Arc;
 use std::time::{Duration, Instant};
@@ -55,36 +50,6 @@ impl SharedMemory for Memory {
     fn slice(&self, host: u64, len: usize) -> Option<VolatileSlice<'_>> {
         self.0.get_slice(usize::try_from(host).ok()?, len).ok()
     }
-}
-
-/// How long the threads of this process have waited for a processor.
-struct Delays(Vec<File>);
-
-impl Delays {
-    /// Of all threads that there are.
-    fn new() -> Result<Self, Failure> {
-        let threads = std::fs::read_dir("/proc/self/task")?;
-        let files = threads.map(|it| File::open(it?.path().join("schedstat")));
-        Ok(Self(files.collect::<Result<_, _>>()?))
-    }
-
-    fn now(&self) -> Result<Duration, Failure> {
-        let mut all = 0;
-        for file in &self.0 {
-            let mut bytes = [0; 64];
-            let length = file.read_at(&mut bytes, 0)?;
-            let text = std::str::from_utf8(&bytes[..length])?;
-            all += text.split_whitespace().nth(1).ok_or("no delay")?.parse::<u64>()?;
-        }
-        Ok(Duration::from_nanos(all))
-    }
-}
-
-/// The longest times of a kind of commands: as they were, and without the waits for a processor.
-#[derive(Clone, Copy, Default)]
-struct Longest {
-    whole: Duration,
-    own: Duration,
 }
 
 /// The driver's side of the lane.
@@ -183,9 +148,8 @@ impl Driver {
         let begin = Instant::now();
         self.ring()?;
         let others = self.begun.len();
-        let delays = Delays::new()?;
-        let mut longest = vec![Longest::default(); opcodes.len()];
-        let mut waiting: HashMap<u16, (usize, Duration)> = HashMap::new();
+        let mut longest = vec![Duration::ZERO; opcodes.len()];
+        let mut waiting: HashMap<u16, usize> = HashMap::new();
         let mut count = 0;
         let mut done = 0;
         while done < others {
@@ -193,30 +157,26 @@ impl Driver {
                 std::thread::sleep(Duration::from_micros(100));
             }
             for (i, (opcode, _)) in opcodes.iter().enumerate() {
-                if !waiting.values().any(|(other, _)| *other == i) {
-                    let delayed = delays.now()?;
+                if !waiting.values().any(|other| *other == i) {
                     let command = self.put(*opcode, VICTIM, 0, FIRST + (count * 8) % (4 << 11), 7)?;
-                    waiting.insert(command, (i, delayed));
+                    waiting.insert(command, i);
                     count += 1;
                 }
             }
             self.ring()?;
             for (command, time) in self.turn()? {
-                let Some((i, delayed)) = waiting.remove(&command) else {
-                    done += 1;
-                    continue;
-                };
-                let own = time.saturating_sub(delays.now()? - delayed);
-                longest[i].whole = longest[i].whole.max(time);
-                longest[i].own = longest[i].own.max(own);
+                match waiting.remove(&command) {
+                    Some(i) => longest[i] = longest[i].max(time),
+                    None => done += 1,
+                }
             }
         }
         let whole = begin.elapsed();
         self.wait()?;
-        let times = opcodes.iter().zip(longest).map(|((_, name), it)| {
-            let [whole, own] = [it.whole, it.own].map(|time| time.as_secs_f64() * 1e3);
-            format!("{name} {whole:.3} ms ({own:.3} without waits for a processor)")
-        });
+        let times = opcodes
+            .iter()
+            .zip(longest)
+            .map(|((_, name), time)| format!("{name} {:.3} ms", time.as_secs_f64() * 1e3));
         let turn = self.longest_turn.as_secs_f64() * 1e3;
         println!(
             "{what}: {:.1} ms; of {count} others the longest {}; longest turn {turn:.3} ms",

@@ -189,6 +189,27 @@ fn a_shutdown_is_told_once_nothing_is_outstanding() {
     assert_eq!(host.end(), Outcome::Good);
 }
 
+/// From version 1.3 on Linux asks for descriptors of namespaces, which the mediator refuses, and leaves the namespace out.
+#[test]
+fn a_controller_is_of_version_1_2_unless_another_is_asked_for() {
+    if !is_real() {
+        return;
+    }
+    let folder = Folder::new("version");
+    let host = host(&configuration(&folder, 2, "version 1 1.4\n"));
+    for (socket, version) in [("g0", 0x1_0200), ("g1", 0x1_0400)] {
+        let mut guest = Guest::connect(&folder.path(socket)).unwrap();
+        guest.bring_up().unwrap();
+        assert_eq!(guest.client.read_u32(BAR0, 8).unwrap(), version, "the version register");
+        assert_eq!(
+            guest.admin(6, 0x20_0000, [1, 0, 0]).unwrap().status,
+            0,
+            "Identify Controller"
+        );
+    }
+    assert_eq!(host.end(), Outcome::Good);
+}
+
 #[test]
 fn the_pin_interrupts() {
     if !is_real() {

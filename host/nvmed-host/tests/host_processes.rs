@@ -76,7 +76,7 @@ fn a_machine_that_goes_on_without_its_drive() {
     let process = line_of(&notes, "gone ").split_off("gone ".len());
     // longer than it takes until a process is found to have ended
     std::thread::sleep(Duration::from_millis(300));
-    assert!(program.0.try_wait().unwrap().is_none() && is_there(&process));
+    assert!(!program.has_ended() && is_there(&process));
     program.signal(Signal::SIGTERM);
     let said = program.said();
     assert_eq!(program.status(), 0, "{said}");

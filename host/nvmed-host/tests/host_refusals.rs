@@ -88,14 +88,11 @@ fn what_cannot_be_used_is_named() {
 #[test]
 fn a_folder_that_cannot_be_made_is_named() {
     let folder = Folder::new("no-folder");
-    let path = folder.path("configuration");
     let started = folder.path("started");
-    std::fs::write(
-        &path,
-        lines("ram 16M", "16M", &format!("start 0 touch {}", started.display())),
-    )
-    .unwrap();
-    let mut program = Program::run(Command::new(PROGRAM).arg(&path).env("TMPDIR", "/no/such/folder"));
+    let text = lines("ram 16M", "16M", &format!("start 0 touch {}", started.display()));
+    let mut command = Command::new(PROGRAM);
+    command.env("TMPDIR", "/no/such/folder");
+    let mut program = Program::start_by(command, &folder, &text, &[]);
     let said = program.said();
     assert_eq!(program.status(), 1, "{said}");
     let words = "guest 0 (line 4): /no/such/folder: no folder for a socket can be made there: ";
@@ -123,19 +120,9 @@ fn a_socket_that_another_program_listens_on_is_left_to_it() {
 
 /// The program with so many descriptors at most: what began it, and what it has said when it has ended.
 fn with_descriptors(folder: &Folder, most: u32) -> Program {
-    let path = folder.path("configuration");
-    std::fs::write(&path, configuration(folder, 2, "")).unwrap();
-    Program::run(
-        Command::new("sh")
-            .args([
-                "-c",
-                "ulimit -n \"$1\" && exec \"$2\" \"$3\"",
-                "sh",
-                &most.to_string(),
-                PROGRAM,
-            ])
-            .arg(path),
-    )
+    let mut limited = Command::new("sh");
+    limited.args(["-c", &format!("ulimit -n {most} && exec \"$0\" \"$@\""), PROGRAM]);
+    Program::start_by(limited, folder, &configuration(folder, 2, ""), &[])
 }
 
 /// A whole guest on a connection; over the stub as far as that goes.
@@ -157,7 +144,7 @@ fn each_descriptor_refused_in_turn() {
         let mut program = with_descriptors(&folder, most);
         // the last guest's socket is made last, and a connection waits until it is taken
         let client = wait_for("the program's socket, or its end", || {
-            let ended = program.0.try_wait().unwrap().map(|_| None);
+            let ended = program.has_ended().then_some(None);
             ended.or_else(|| Client::connect(&folder.path("g1")).ok().map(Some))
         });
         let good = client.is_some_and(|client| {
@@ -177,7 +164,7 @@ fn each_descriptor_refused_in_turn() {
             }
             up.is_ok()
         });
-        if program.0.try_wait().unwrap().is_none() {
+        if !program.has_ended() {
             program.signal(Signal::SIGTERM);
         }
         let (said, status) = (program.said(), program.status());

@@ -16,38 +16,44 @@ use crate::guest::{Bells, Folder, Guest, BYTES};
 pub const PROGRAM: &str = env!("CARGO_BIN_EXE_nvmed-host");
 
 /// The program, which ends with this value.
-pub struct Program(pub Child);
+pub struct Program(Child);
 
 impl Program {
-    /// Starts it with words before its configuration, which is put into the folder.
+    /// Starts it with this configuration and words.
     pub fn start(folder: &Folder, text: &str, words: &[&str]) -> Self {
-        let path = folder.path("configuration");
-        std::fs::write(&path, text).unwrap();
-        Self::run(Command::new(PROGRAM).args(words).arg(path))
+        Self::start_by(Command::new(PROGRAM), folder, text, words)
     }
 
     /// The same by a command that runs the program with the words that come after its own.
     pub fn start_by(mut command: Command, folder: &Folder, text: &str, words: &[&str]) -> Self {
         let path = folder.path("configuration");
         std::fs::write(&path, text).unwrap();
-        Self::run(command.args(words).arg(path))
-    }
-
-    /// Starts it by a command.
-    pub fn run(command: &mut Command) -> Self {
-        let command = command.stdin(Stdio::null()).stdout(Stdio::null());
-        Self(command.stderr(Stdio::piped()).spawn().unwrap())
+        let child = command
+            .args(words)
+            .arg(path)
+            .stdin(Stdio::null())
+            .stdout(Stdio::null())
+            .stderr(Stdio::piped())
+            .spawn()
+            .unwrap();
+        Self(child)
     }
 
     pub fn signal(&self, signal: Signal) {
         kill(Pid::from_raw(self.0.id() as i32), signal).unwrap();
     }
 
+    /// Whether it has ended. It does not wait.
+    pub fn has_ended(&mut self) -> bool {
+        self.0.try_wait().unwrap().is_some()
+    }
+
+    /// Waits for its end.
     pub fn status(&mut self) -> i32 {
         self.0.wait().unwrap().code().unwrap()
     }
 
-    /// All that it says until its end.
+    /// What it has said until its end.
     pub fn said(&mut self) -> String {
         let mut text = String::new();
         self.0.stderr.take().unwrap().read_to_string(&mut text).unwrap();
@@ -104,7 +110,7 @@ pub fn run(words: &[&str]) -> (i32, String, String) {
     (status.code().unwrap(), text(stdout), text(stderr))
 }
 
-/// Connects a guest, once the program listens: a socket's path is there a moment before that.
+/// A guest that connects once the program listens: a socket's path is there a moment before that.
 pub fn connect(folder: &Folder, name: &str) -> Guest {
     let begin = Instant::now();
     loop {

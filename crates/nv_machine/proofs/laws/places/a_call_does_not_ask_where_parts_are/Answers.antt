@@ -1,4 +1,5 @@
 use Rattle.nv_machine.proofs.PlaceCalls.{call-same, fetch-same, for-same, then-same}
+use Rattle.nv_machine.proofs.PlaceKept.{after-same}
 use Rattle.nv_machine.proofs.laws.places.a_call_does_not_ask_where_parts_are.Goals as goal
 
 pub returns-clause-fetches : goal.returns-clause-fetches
@@ -12,3 +13,6 @@ returns-clause-guests c = λ e fetched s z same. for-same s z same e fetched
 
 pub returns-clause-calls : goal.returns-clause-calls
 returns-clause-calls c = λ geometry e fetched s z same. call-same s z same geometry e fetched
+
+pub returns-clause-several : goal.returns-clause-several
+returns-clause-several c = λ geometry calls s z same. after-same geometry calls s z same
