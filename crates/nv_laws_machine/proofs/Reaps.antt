@@ -93,8 +93,7 @@ module _ (geometry : Geometry) (old new : Side) (before : List ℕ) (lane : ℕ)
         let on : IsSideOf old before w = record { host = refl; lanes = refl; controllers = refl; tails = ap (λ (s : Side). s.tails) (side-with host old) } in
         let code = ended is w l on found in
         let machine = reaped-in w lane whole l (begun old) (begun-with host old) found in
-        let both : in_world w after ≡ with_side new before w = machine ∙ sym code in
-        (
+        let both : in_world w after ≡ with_side new before w = machine ∙ sym code in (
           sym is,
           record {
             lanes = ap (λ (v : World). map unplaced_lane v.lanes) both;
