@@ -1,4 +1,4 @@
-# A part of bench/vm.sh: inside a virtual machine with an I/O MMU, the program drives QEMU's NVMe controller by VFIO.
+# A part of bench/vm.sh: inside a virtual machine with an I/O MMU, the program drives QEMU's NVMe controllers by VFIO.
 # shellcheck shell=bash disable=SC2034,SC2154
 
 # shellcheck source=/dev/null
@@ -33,6 +33,7 @@ machine() {
     timeout $((limit > SECONDS ? limit - SECONDS : 1)) qemu-system-x86_64 -nodefaults -no-user-config -display none -serial file:"$room/serial.0" -no-reboot \
         -cpu max -m 768M -machine q35,accel=tcg,kernel-irqchip=split -device intel-iommu,intremap=on,caching-mode=on \
         -drive file="$room/image",format=raw,if=none,id=shared -device nvme,drive=shared,serial=shared,max_ioqpairs=8 \
+        -drive file="$room/alone",format=raw,if=none,id=alone -device nvme,drive=alone,serial=alone,max_ioqpairs=8 \
         -kernel "$cache/kernel-$kernel/vmlinuz" -initrd "$room/initrd" -append "$words part=vfio guest=0"
 }
 
@@ -41,18 +42,27 @@ has_line() {
     tr -d '\r' < "$room/serial.0" | grep -qEx "$1"
 }
 
+# The test of a controller by VFIO, built over the stub of the library: it uses no mediator.
+vfio_live() {
+    (cd "$top/host" && cargo test --quiet --no-run --features nvmed-host/stub -p nvmed-host --test vfio_live --message-format json) |
+        sed -nE 's/.*"executable":"([^"]*\/vfio_live-[^"]*)".*/\1/p'
+}
+
 run() {
     paint
+    truncate -s 16M "$room/alone"
     begin_system
     add_modules "$kernel"
     # the controller is left to VFIO
     rm "$room/system/lib/modules/nvme.ko"
     sed -i '/^nvme$/d' "$room/system/lib/modules/order"
-    add_programs "$program" "$live"
+    cp "$(vfio_live)" "$room/vfio_live"
+    add_programs "$program" "$live" "$room/vfio_live"
     make_configuration > "$room/system/etc/configuration"
     end_system "$room/initrd"
     check "the machine switches off" quietly machine
     check "all programs in it" says 0 "guest 0: passed"
+    check "an access outside of what is mapped is a fault of the I/O MMU" has_line "the I/O MMU's faults there: [1-9][0-9]*"
     check "the program drives the controller by VFIO" has_line '.* the drive: 0000:00:0[0-9]\.0: QEMU NVMe Ctrl.*'
     check "a hostile guest has had its rounds" has_line '[1-9][0-9]* rounds, [0-9]+ commands, [0-9]+ bytes scribbled, [0-9]+ messages'
     check "guest 0's blocks are where its extents say" has_its_blocks 0

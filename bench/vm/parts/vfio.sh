@@ -1,16 +1,18 @@
-# The machine's NVMe controller by VFIO: the program has it, with a guest that works and a hostile one.
+# The machine's two NVMe controllers by VFIO: the second one alone, and the first one by the program, which has a guest that works and a hostile one.
 set -e
 for device in /sys/bus/pci/devices/*; do
     [ "$(cat "$device/class")" = 0x010802 ] || continue
     echo vfio-pci > "$device/driver_override"
     echo "${device##*/}" > /sys/bus/pci/drivers_probe
-    first=${device##*/}
+    [ -n "$first" ] || first=${device##*/}
+    second=${device##*/}
 done
+NVMED_VFIO=$second vfio_live --ignored --nocapture
 sed "s/^drive .*/drive vfio $first/" /etc/configuration > /tmp/configuration
 trap 'cat /tmp/said' EXIT
 nvmed-host /tmp/configuration 2> /tmp/said &
 host=$!
-# its sockets are there before its drive is, and a client waits for an answer no longer than five seconds
+# clients are served before its drive is there, but this machine is slow, and their commands would have waited for long
 seconds=0
 until grep -q 'the drive: ' /tmp/said; do
     sleep 1
