@@ -9,8 +9,10 @@ use vm_memory::VolatileSlice;
 pub const PAGE_BYTES: u64 = 4096;
 /// Bytes that a command may move: 128 KiB.
 pub const MOST_BYTES: u32 = 131_072;
-/// Pages that so many bytes may touch.
-const MOST_PLACES: usize = 33;
+/// Places of a data pointer at most: pages that so many bytes may touch.
+pub const MOST_PLACES: usize = 33;
+/// Places that are kept without memory of their own: those of 16 KiB, wherever they begin.
+pub const FEW_PLACES: usize = 5;
 /// Bytes of an entry of a list.
 const ENTRY_BYTES: usize = 8;
 
@@ -43,8 +45,11 @@ pub struct Place {
 /// The places of a data pointer, in order: at most 33.
 #[derive(Clone, Debug)]
 pub struct Places {
-    place: [Place; MOST_PLACES],
+    first: [Place; FEW_PLACES],
+    /// How many of these there are.
     count: usize,
+    /// Those after them.
+    more: Vec<Place>,
     bytes: u32,
 }
 
@@ -62,8 +67,9 @@ impl Places {
             return Err(PrpError::Offset);
         }
         let mut places = Places {
-            place: [Place::default(); MOST_PLACES],
+            first: [Place::default(); FEW_PLACES],
             count: 0,
+            more: Vec::new(),
             bytes: 0,
         };
         places.add(memory, prp1, bytes)?;
@@ -86,8 +92,13 @@ impl Places {
     }
 
     /// The places.
-    pub fn all(&self) -> &[Place] {
-        self.place.get(..self.count).unwrap_or_default()
+    pub fn all(&self) -> impl Iterator<Item = &Place> {
+        self.first.iter().take(self.count).chain(&self.more)
+    }
+
+    /// Whether there are few: [`FEW_PLACES`] at most.
+    pub fn are_few(&self) -> bool {
+        self.more.is_empty()
     }
 
     /// The bytes of all places.
@@ -98,7 +109,7 @@ impl Places {
     /// The parts of the places that have the bytes from `from` on, at most `bytes` of them, in order.
     pub fn part(&self, from: u32, bytes: u32) -> impl Iterator<Item = Place> + '_ {
         let (mut skip, mut left) = (from, bytes);
-        self.all().iter().filter_map(move |place| {
+        self.all().filter_map(move |place| {
             let skipped = skip.min(place.bytes);
             skip -= skipped;
             let taken = (place.bytes - skipped).min(left);
@@ -115,11 +126,18 @@ impl Places {
         let room = (PAGE_BYTES - address % PAGE_BYTES) as u32;
         let length = room.min(bytes - self.bytes);
         memory.slice(address, length as usize).ok_or(PrpError::Outside)?;
-        *self.place.get_mut(self.count).ok_or(PrpError::Outside)? = Place {
+        let place = Place {
             host: address,
             bytes: length,
         };
-        self.count += 1;
+        match self.first.get_mut(self.count) {
+            Some(free) => {
+                *free = place;
+                self.count += 1;
+            }
+            None if self.more.len() < MOST_PLACES - FEW_PLACES => self.more.push(place),
+            None => return Err(PrpError::Outside),
+        }
         self.bytes += length;
         Ok(())
     }

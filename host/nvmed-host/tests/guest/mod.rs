@@ -4,13 +4,14 @@
 use std::fs::File;
 use std::io;
 use std::os::fd::AsFd;
-use std::os::unix::fs::FileExt;
 use std::path::{Path, PathBuf};
+use std::sync::atomic::{AtomicU32, Ordering};
 use std::time::{Duration, Instant};
 
 use nix::sys::eventfd::EventFd;
 use nvmed_host::config::Config;
 use nvmed_host::host::Host;
+use vm_memory::{FileOffset, MmapRegion, VolatileMemory};
 
 use crate::client::{self, Client, Memory, Range, BAR0, CONFIG};
 
@@ -22,6 +23,8 @@ const CC: u64 = 0x14;
 const CSTS: u64 = 0x1c;
 const ENABLE: u32 = 0x0046_0001;
 const ENTRIES: u32 = 64;
+/// Where the doorbells lie in BAR0, and in the file of their page.
+const BELLS: u64 = 0x1000;
 
 /// Whether the library is a mediator: the stub is none.
 pub fn is_real() -> bool {
@@ -106,11 +109,16 @@ pub struct Guest {
     pub client: Client,
     pub memory: Memory,
     pub vectors: Vec<EventFd>,
-    page: Option<File>,
+    page: Option<MmapRegion>,
     queues: Vec<Queue>,
     next: u16,
     /// Whether each completion is to have an interrupt.
     pub interrupts: bool,
+}
+
+/// Maps the page of doorbells. A doorbell is one store, as a processor makes it: a write of the file may store byte after byte.
+fn map_bells(file: File) -> io::Result<MmapRegion> {
+    MmapRegion::from_file(FileOffset::new(file, BELLS), 0x1000).map_err(io::Error::other)
 }
 
 /// The memory of a machine of that size.
@@ -136,6 +144,7 @@ impl Guest {
     pub fn on(mut client: Client, memory: Memory, bells: Bells) -> io::Result<Self> {
         let found = client.start_as_qemu(&memory, &ranges(memory.bytes))?;
         let page = found.regions.into_iter().next().and_then(|bar| bar.descriptor);
+        let page = page.filter(|_| bells == Bells::Page).map(File::from).map(map_bells);
         let vectors = client::eventfds(9)?;
         client.write(CONFIG, 4, &[6, 0])?;
         client.enable_msix(&vectors)?;
@@ -144,7 +153,7 @@ impl Guest {
             client,
             memory,
             vectors,
-            page: page.filter(|_| bells == Bells::Page).map(File::from),
+            page: page.transpose()?,
             queues: Vec::new(),
             next: 0,
             interrupts: true,
@@ -237,10 +246,14 @@ impl Guest {
 
     /// Writes any doorbell, numbered from 0.
     pub fn bell(&mut self, number: u64, value: u32) -> io::Result<()> {
-        let offset = 0x1000 + 4 * number;
+        let offset = 4 * number;
         match &self.page {
-            Some(page) => page.write_all_at(&value.to_le_bytes(), offset),
-            None => self.client.post_u32(BAR0, offset, value),
+            Some(page) => {
+                let bell = page.get_atomic_ref::<AtomicU32>(offset as usize);
+                bell.map_err(io::Error::other)?.store(value, Ordering::SeqCst);
+                Ok(())
+            }
+            None => self.client.post_u32(BAR0, BELLS + offset, value),
         }
     }
 

@@ -10,10 +10,7 @@ use vm_memory::VolatileSlice;
 use super::command::{Clearing, Extent, Kind, Step, Transfer};
 use super::store::{Store, Wait};
 use crate::drive::entry::Status;
-use crate::drive::prp::{SharedMemory, PAGE_BYTES};
-
-/// Places that a transfer names at most.
-const MOST_PLACES: usize = 33;
+use crate::drive::prp::{SharedMemory, FEW_PLACES, MOST_PLACES, PAGE_BYTES};
 
 /// How far a step came.
 #[derive(Clone, Copy, Debug, PartialEq, Eq)]
@@ -124,7 +121,7 @@ impl<M: SharedMemory + ?Sized> Carrier<'_, M> {
             _ => return Status::WRITE_FAULT,
         }
         let from = transfer.done.saturating_sub(rest);
-        let Some((places, count)) = self.slices(transfer, from, rest) else {
+        let Some((places, count)) = self.slices::<MOST_PLACES>(transfer, from, rest) else {
             return Status::TRANSFER_ERROR;
         };
         match self
@@ -142,15 +139,16 @@ impl<M: SharedMemory + ?Sized> Carrier<'_, M> {
         Status::WRITE_FAULT_FOR_EVER
     }
 
-    fn slices<'m>(
+    /// Where so many bytes of a transfer are, from `from` on, in `N` places at most.
+    fn slices<'m, const N: usize>(
         &'m self,
         transfer: &Transfer,
         from: u32,
         bytes: u32,
-    ) -> Option<([VolatileSlice<'m>; MOST_PLACES], usize)> {
+    ) -> Option<([VolatileSlice<'m>; N], usize)> {
         let mut parts = transfer.places.part(from, bytes);
         let first = parts.next()?;
-        let mut slices = [self.memory.slice(first.host, first.bytes as usize)?; MOST_PLACES];
+        let mut slices = [self.memory.slice(first.host, first.bytes as usize)?; N];
         let mut count = 1;
         for part in parts {
             *slices.get_mut(count)? = self.memory.slice(part.host, part.bytes as usize)?;
@@ -165,15 +163,13 @@ impl<M: SharedMemory + ?Sized> Carrier<'_, M> {
         }
         let rest = transfer.places.bytes().saturating_sub(transfer.done);
         let bytes = rest.min(u32::try_from(bytes).unwrap_or(u32::MAX));
-        let Some((slices, count)) = self.slices(transfer, transfer.done, bytes) else {
-            return (Outcome::Done(Status::TRANSFER_ERROR), 0);
+        let moved = if transfer.places.are_few() {
+            self.move_some::<FEW_PLACES>(transfer, bytes, wait)
+        } else {
+            self.move_some::<MOST_PLACES>(transfer, bytes, wait)
         };
-        let places = slices.get(..count).unwrap_or_default();
-        let offset = transfer.offset + u64::from(transfer.done);
-        let moved = match transfer.kind {
-            Kind::Read => self.store.read(offset, places, wait).map(|()| true),
-            Kind::Write => self.store.write(offset, places, wait).map(|()| true),
-            Kind::Compare => compare(self.store, offset, places, wait),
+        let Some(moved) = moved else {
+            return (Outcome::Done(Status::TRANSFER_ERROR), 0);
         };
         let outcome = match moved {
             Ok(true) if bytes == rest => Outcome::Done(Status::GOOD),
@@ -186,6 +182,18 @@ impl<M: SharedMemory + ?Sized> Carrier<'_, M> {
         };
         transfer.done += bytes;
         (outcome, u64::from(bytes))
+    }
+
+    /// Moves the next bytes of a transfer, in `N` places at most; of a Compare, whether they are the same. `None` where they have no memory.
+    fn move_some<const N: usize>(&self, transfer: &Transfer, bytes: u32, wait: Wait) -> Option<io::Result<bool>> {
+        let (slices, count) = self.slices::<N>(transfer, transfer.done, bytes)?;
+        let places = slices.get(..count)?;
+        let offset = transfer.offset + u64::from(transfer.done);
+        Some(match transfer.kind {
+            Kind::Read => self.store.read(offset, places, wait).map(|()| true),
+            Kind::Write => self.store.write(offset, places, wait).map(|()| true),
+            Kind::Compare => compare(self.store, offset, places, wait),
+        })
     }
 
     fn clear(&self, clearing: &mut Clearing, bytes: u64) -> (Outcome, u64) {

@@ -66,7 +66,7 @@ pub struct Clearing {
 #[derive(Clone, Debug)]
 pub enum Step {
     /// To move bytes.
-    Transfer(Box<Transfer>),
+    Transfer(Transfer),
     /// To make blocks zero.
     Clear(Clearing),
     /// To make durable what was written.
@@ -150,13 +150,13 @@ fn transfer<M: SharedMemory + ?Sized>(kind: Kind, entry: &Submission, memory: &M
     }
     let extent = extent(entry.first_block(), u64::from(entry.blocks()), blocks)?;
     let places = places(entry, memory, entry.blocks() * BLOCK_BYTES as u32)?;
-    Ok(Step::Transfer(Box::new(Transfer {
+    Ok(Step::Transfer(Transfer {
         kind,
         offset: extent.from,
         places,
         done: 0,
         forced: entry.is_forced(),
-    })))
+    }))
 }
 
 /// Dataset Management of up to 256 ranges. What only advises is taken note of by doing nothing.

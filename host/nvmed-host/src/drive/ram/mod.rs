@@ -107,14 +107,12 @@ impl<M: SharedMemory + 'static> RamDrive<M> {
     }
 
     fn lane(&mut self, lane: usize) -> Result<&mut Lane, DriveError> {
-        self.lanes
-            .get_mut(lane)
-            .ok_or_else(|| DriveError::Failed(format!("there is no lane {lane}")))
+        self.lanes.get_mut(lane).ok_or_else(|| no_lane(lane))
     }
 
     fn post(&mut self, turn: &mut Turn, lane: usize, command: u16, status: Status) -> Result<(), DriveError> {
-        let memory = Arc::clone(&self.memory);
-        self.lane(lane)?.post(&*memory, command, status)?;
+        let rings = self.lanes.get_mut(lane).ok_or_else(|| no_lane(lane))?;
+        rings.post(&*self.memory, command, status)?;
         turn.completed += 1;
         Ok(())
     }
@@ -200,6 +198,10 @@ struct Turn {
     commands: u32,
     bytes: u64,
     completed: u32,
+}
+
+fn no_lane(lane: usize) -> DriveError {
+    DriveError::Failed(format!("there is no lane {lane}"))
 }
 
 fn bytes_of(blocks: u64) -> Result<u64, DriveError> {

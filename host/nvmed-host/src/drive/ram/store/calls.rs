@@ -7,6 +7,8 @@ use std::os::fd::{AsRawFd, BorrowedFd};
 
 use vm_memory::VolatileSlice;
 
+use crate::drive::prp::FEW_PLACES;
+
 /// Places that one system call takes: more than a command of 128 KiB has.
 const MOST_PLACES: usize = 40;
 
@@ -34,7 +36,11 @@ pub fn move_all(
     flags: i32,
 ) -> io::Result<()> {
     in_calls(way, offset, places, |at, group, skip| {
-        move_some(file, way, at, group, skip, flags)
+        if group.len() <= FEW_PLACES {
+            move_some::<FEW_PLACES>(file, way, at, group, skip, flags)
+        } else {
+            move_some::<MOST_PLACES>(file, way, at, group, skip, flags)
+        }
     })
 }
 
@@ -65,8 +71,8 @@ fn in_calls<'a>(
     Ok(())
 }
 
-/// One system call: moves bytes between the file from `at` on and `places`, without the first `skip` bytes of these. Returns how many were moved.
-fn move_some(
+/// One system call: moves bytes between the file from `at` on and `places`, `N` at most, without the first `skip` bytes of these. Returns how many were moved.
+fn move_some<const N: usize>(
     file: BorrowedFd<'_>,
     way: Way,
     at: u64,
@@ -78,7 +84,7 @@ fn move_some(
     let mut vector = [libc::iovec {
         iov_base: std::ptr::null_mut(),
         iov_len: 0,
-    }; MOST_PLACES];
+    }; N];
     let mut count = 0;
     let mut skip = skip;
     for place in places {
