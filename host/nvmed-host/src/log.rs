@@ -7,7 +7,7 @@
 mod line;
 mod queue;
 #[cfg(test)]
-mod tests;
+pub(crate) mod tests;
 
 use std::io;
 use std::os::fd::{AsFd, OwnedFd};

@@ -166,4 +166,56 @@ mod tests {
         let text = Line::new(None, format_args!("{}", "ü".repeat(5000))).text(UNIX_EPOCH, Level::INFO);
         assert!(text.len() <= LINE_BYTES && text.ends_with("ü ...\n"));
     }
+
+    /// Text as a client's or a drive's may be: any characters, control characters among them.
+    fn any_text(random: &mut impl FnMut() -> u64) -> String {
+        let most = [20, 200, 2 * LINE_BYTES as u64][(random() % 3) as usize];
+        (0..random() % most)
+            .map(|_| match random() % 4 {
+                0 => char::from(random() as u8),
+                1 => char::from_u32(random() as u32 % 0x11_0000).unwrap_or('\u{2028}'),
+                _ => char::from(b' ' + (random() % 95) as u8),
+            })
+            .collect()
+    }
+
+    fn shown_as(c: char) -> String {
+        match c {
+            '\t' => "\\t".to_owned(),
+            '\n' => "\\n".to_owned(),
+            '\r' => "\\r".to_owned(),
+            c if c.is_control() => format!("\\u{{{:x}}}", u32::from(c)),
+            c => c.to_string(),
+        }
+    }
+
+    /// Any text is one line within its bound. Other characters than control characters stay as they are, up to where it is cut.
+    #[test]
+    fn any_text_is_one_line() {
+        let mut state = 0x9e37_79b9_7f4a_7c15u64;
+        let mut random = || {
+            state ^= state << 13;
+            state ^= state >> 7;
+            state ^= state << 17;
+            state
+        };
+        let mut cut = 0;
+        for _ in 0..5000 {
+            let said = any_text(&mut random);
+            let text = Line::new(None, format_args!("{said}")).text(UNIX_EPOCH, Level::INFO);
+            let line = text.strip_suffix('\n').unwrap();
+            assert!(text.len() <= LINE_BYTES && !line.contains(char::is_control));
+            let shown = line.strip_prefix("1970-01-01T00:00:00.000Z INFO  ").unwrap();
+            let whole: String = said.chars().map(shown_as).collect();
+            if shown != whole {
+                let begin = shown.strip_suffix(" ...").unwrap();
+                assert!(
+                    whole.starts_with(begin) && text.len() > LINE_BYTES - 16,
+                    "{said:?}: {text:?}"
+                );
+                cut += 1;
+            }
+        }
+        assert!(cut > 100, "{cut} of them are cut");
+    }
 }

@@ -17,6 +17,23 @@ fn line(reader: &mut impl BufRead) -> String {
     line
 }
 
+/// What this thread says meanwhile: lines without their times.
+pub(crate) fn said_by(run: impl FnOnce()) -> Vec<String> {
+    let (from, _log, subscriber) = pipe(LevelFilter::INFO);
+    tracing::subscriber::with_default(subscriber, || {
+        run();
+        tracing::info!("the end");
+    });
+    let mut from = BufReader::new(from);
+    let lines = std::iter::from_fn(|| {
+        line(&mut from)
+            .trim_end()
+            .split_once(' ')
+            .map(|(_, rest)| rest.to_owned())
+    });
+    lines.take_while(|line| line != "INFO  the end").collect()
+}
+
 #[test]
 fn lines_have_time_level_guest_and_fields() {
     let (from, log, subscriber) = pipe(LevelFilter::INFO);

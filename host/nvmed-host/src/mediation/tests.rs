@@ -12,6 +12,7 @@ use super::outbox::Outbox;
 use super::side::{Rings, Worked};
 use super::*;
 use crate::doorbells::Page;
+use crate::drive::nvme::Recover;
 use crate::drive::{LaneRings, Progress};
 use crate::interrupts::VectorSet;
 use crate::pci::VERSION_1_3;
@@ -36,6 +37,9 @@ enum Manner {
     Strays,
     /// It fails at a doorbell, and takes a while to stop.
     FailsAndHangs,
+    RefusesLanes,
+    /// It answers nothing, since it is being reset.
+    IsReset,
 }
 
 #[derive(Default)]
@@ -182,6 +186,7 @@ impl Drive for Fake {
                 assert_eq!(lane.entries, 65);
                 Ok(())
             }
+            (_, Manner::RefusesLanes) => Err(DriveError::Unusable("it has no queues".to_owned())),
             _ => Ok(()),
         }
     }
@@ -191,7 +196,7 @@ impl Drive for Fake {
         state.log.push(format!("tail {tail}"));
         match state.manner {
             Manner::FailsAtDoorbell | Manner::FailsAndHangs => Err(DriveError::Failed("it is gone".to_owned())),
-            Manner::Silent => Ok(()),
+            Manner::Silent | Manner::IsReset => Ok(()),
             _ => {
                 state.completed = state.owners.len() as u32;
                 Ok(())
@@ -219,6 +224,10 @@ impl Drive for Fake {
         None
     }
 
+    fn recover(&mut self) -> Option<&mut dyn Recover> {
+        Some(self)
+    }
+
     fn describe(&self) -> String {
         "a fake".to_owned()
     }
@@ -230,6 +239,24 @@ impl Drive for Fake {
         }
         self.state().closed = true;
         Ok(())
+    }
+}
+
+impl Recover for Fake {
+    fn oldest(&self, _lane: usize) -> Option<Duration> {
+        None
+    }
+
+    fn abort(&mut self, _lane: usize) -> Result<(), DriveError> {
+        Ok(())
+    }
+
+    fn reset(&mut self) -> Result<(), DriveError> {
+        Ok(())
+    }
+
+    fn is_recovering(&self) -> bool {
+        self.state().manner == Manner::IsReset
     }
 }
 
@@ -484,6 +511,48 @@ fn a_silent_drive_is_found() {
     assert!(rig.fake.state().closed && rig.fake.state().lanes_closed);
     rig.turn(begin + SILENCE + Duration::from_secs(1));
     assert_eq!(rig.fake.state().taken[&0], 0);
+}
+
+/// Its time for answers begins anew where the reset ends.
+#[test]
+fn a_drive_that_is_being_reset_is_not_found_silent() {
+    let mut rig = Rig::new(Manner::Silent, 1);
+    rig.enable(0);
+    rig.send(0, &[RING]);
+    let begin = Instant::now();
+    rig.turn(begin);
+    rig.fake.state().manner = Manner::IsReset;
+    let end = begin + 3 * SILENCE;
+    rig.turn(begin + SILENCE + Duration::from_secs(1));
+    rig.turn(end);
+    rig.fake.state().manner = Manner::Silent;
+    rig.turn(end + SILENCE - Duration::from_secs(1));
+    thread::sleep(Duration::from_millis(50));
+    rig.turn(end + SILENCE - Duration::from_secs(1));
+    assert!(!rig.fake.state().closed);
+    rig.turn(end + SILENCE + Duration::from_secs(1));
+    let patience = Instant::now();
+    while !rig.fake.state().closed {
+        assert!(patience.elapsed() < Duration::from_secs(20));
+        thread::sleep(Duration::from_millis(5));
+    }
+}
+
+#[test]
+fn a_drive_that_refuses_its_queues_is_closed() {
+    let fake = Fake::new(Manner::RefusesLanes);
+    let made = Mediation::new(Parts {
+        side: fake.clone(),
+        lanes: 1,
+        window: Arc::clone(&fake.window),
+        drive: Box::new(fake.clone()),
+        posts: Vec::new(),
+        bell: Arc::new(Bell::new().unwrap()),
+        spin: Duration::ZERO,
+        counts: None,
+    });
+    assert_eq!(made.err().unwrap().to_string(), "it has no queues");
+    assert!(fake.state().closed);
 }
 
 #[test]

@@ -163,6 +163,8 @@ pub struct Fake {
     /// Lane (from 1), opcode, identifier of each I/O command that was taken, Flushes of a reset among them.
     pub io: Vec<(usize, u8, u16)>,
     pub lost: Vec<(usize, u16)>,
+    /// How many commands were lost.
+    pub losses: usize,
     pub abort_works: bool,
     pub aborts: u32,
     pub enables: u32,
@@ -235,6 +237,7 @@ impl Fake {
             mute: None,
             io: Vec::new(),
             lost: Vec::new(),
+            losses: 0,
             abort_works: true,
             aborts: 0,
             enables: 0,
@@ -400,6 +403,7 @@ impl Fake {
             self.io.push((lane, entry[0], id));
             if self.mute == Some(entry[0]) {
                 self.lost.push((lane, id));
+                self.losses += 1;
             } else {
                 self.post(lane, id, 0);
             }

@@ -92,3 +92,52 @@ pub fn store32(memory: &dyn DriveMemory, host: u64, value: u32) -> Result<(), Dr
         .store(value.to_le(), 0, Ordering::Release)
         .map_err(|_| outside(host))
 }
+
+#[cfg(test)]
+mod tests {
+    use super::*;
+
+    /// A window with one piece: what lies outside of it, even in part, is an error that names the address, and moves nothing.
+    #[test]
+    fn what_has_no_memory_is_an_error() {
+        let window = Window::reserve(0x10_0000).unwrap();
+        window.map_zeros(0x1000, 0x2000).unwrap();
+        let memory: &dyn DriveMemory = &*window;
+        assert_eq!(
+            memory.pieces(),
+            [Piece {
+                host: 0x1000,
+                bytes: 0x2000
+            }]
+        );
+        assert_eq!(memory.base(), window.base());
+        store(memory, 0x1000, &[0xee; 0x2000]).unwrap();
+        store(memory, 0x2ffc, &[1, 2, 3, 4]).unwrap();
+        for host in [0, 0xffc, 0x2ffc, 0x3000, 0xf_fffc, 0x10_0000, u64::MAX - 3, u64::MAX] {
+            let mut bytes = [9; 8];
+            let said = load(memory, host, &mut bytes).unwrap_err().to_string();
+            assert_eq!(said, format!("host address {host:#x} is not in the window"));
+            assert_eq!(bytes, [9; 8]);
+            assert!(store(memory, host, &[7; 8]).is_err() && clear(memory, host, 8).is_err());
+            assert!(!is_there(memory, host, 8));
+        }
+        for host in [0xffc, 0xffe, 0x1001, 0x2ffe, 0x3000, u64::MAX] {
+            assert!(
+                load32(memory, host).is_err() && store32(memory, host, 7).is_err(),
+                "{host:#x}"
+            );
+        }
+        assert!(
+            is_there(memory, 0x1000, 0x2000)
+                && !is_there(memory, 0x1000, 0x2001)
+                && !is_there(memory, 0x1000, u64::MAX)
+        );
+        assert_eq!(load32(memory, 0x2ffc).unwrap(), 0x0403_0201);
+        let mut all = [0; 0x2000];
+        load(memory, 0x1000, &mut all).unwrap();
+        assert!(all[..0x1ffc].iter().all(|byte| *byte == 0xee));
+        clear(memory, 0x1000, 0x1ffc).unwrap();
+        load(memory, 0x1000, &mut all).unwrap();
+        assert!(all[..0x1ffc].iter().all(|byte| *byte == 0) && all[0x1ffc..] == [1, 2, 3, 4]);
+    }
+}

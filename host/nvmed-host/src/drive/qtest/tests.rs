@@ -598,6 +598,26 @@ fn qemu_ends() {
     assert!(drive.close().is_err());
 }
 
+/// No access of QEMU's memory is made by way of a register that is none.
+#[test]
+fn what_is_no_dword_of_the_bar_is_refused() {
+    let bench = Bench::new(|_| {});
+    let (mut drive, thread) = bench.open();
+    let before = bench.seen().commands;
+    let bar = drive.controller.access_mut();
+    let end = bar.bytes();
+    for offset in [1, 2, end - 2, end, u32::MAX - 3, u32::MAX] {
+        let words = format!("BAR0 has no dword at {offset:#x}");
+        assert_eq!(bar.read(offset).unwrap_err().to_string(), words);
+        assert_eq!(bar.poll(offset).unwrap_err().to_string(), words);
+        assert_eq!(bar.write(offset, 0).unwrap_err().to_string(), words);
+    }
+    assert_eq!(bench.seen().commands, before);
+    assert!(bar.read(end - 4).is_ok());
+    drop(drive);
+    thread.join().unwrap();
+}
+
 /// A QEMU that stops answering holds nobody up, and is found.
 #[test]
 fn qemu_stops() {
@@ -681,4 +701,40 @@ fn random_answers() {
         }
     }
     assert!(good > 10);
+}
+
+/// Good answers in any pieces, with lines on interrupts between them: each value comes as it was sent, and once all of its line is there.
+#[test]
+fn good_answers_in_pieces() {
+    let mut random = 0x2468_79b9_7f4a_7c15u64;
+    let mut next = move || {
+        random ^= random << 13;
+        random ^= random >> 7;
+        random ^= random << 17;
+        random
+    };
+    let (mut socket, mut theirs) = pair();
+    for round in 0..3000 {
+        if round % 50 == 0 {
+            (socket, theirs) = pair();
+            socket.set_wait(ANSWER_WAIT);
+        }
+        let mut bytes = Vec::new();
+        for _ in 0..next() % 4 {
+            socket.post(next(), next() as u32).unwrap();
+            bytes.extend_from_slice([&b"OK\n"[..], b"IRQ raise 9\nOK\n"][(next() % 2) as usize]);
+        }
+        let value = next() as u32;
+        socket.want(next()).unwrap();
+        bytes.extend_from_slice(format!("OK {value:#018x}\n").as_bytes());
+        let mut rest = &bytes[..];
+        while !rest.is_empty() {
+            assert_eq!(socket.take_value(), None);
+            let (piece, left) = rest.split_at(1 + (next() % rest.len() as u64) as usize);
+            theirs.write_all(piece).unwrap();
+            socket.work().unwrap();
+            rest = left;
+        }
+        assert_eq!((socket.take_value(), socket.is_busy()), (Some(value), false));
+    }
 }

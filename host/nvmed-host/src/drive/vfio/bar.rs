@@ -73,3 +73,37 @@ impl Access for Bar {
         Ok(())
     }
 }
+
+#[cfg(test)]
+mod tests {
+    use super::*;
+    use std::fs::File;
+    use std::os::fd::AsFd;
+    use std::os::unix::fs::FileExt;
+
+    use nix::sys::memfd::{memfd_create, MemFdCreateFlag};
+
+    /// A file plays the device: no access lies outside of the bytes that were mapped.
+    #[test]
+    fn what_is_no_dword_of_the_bar_is_refused() {
+        let file = File::from(memfd_create(c"bar", MemFdCreateFlag::MFD_CLOEXEC).unwrap());
+        file.set_len(0x3000).unwrap();
+        let mut bar = Bar::map(file.as_fd(), 0x1000, 0x1000).unwrap();
+        for offset in [1, 2, 0xffd, 0xffe, 0x1000, u32::MAX - 3, u32::MAX] {
+            let words = format!("BAR0 has no dword at {offset:#x}");
+            assert_eq!(bar.read(offset).unwrap_err().to_string(), words);
+            assert_eq!(bar.poll(offset).unwrap_err().to_string(), words);
+            assert_eq!(bar.write(offset, 7).unwrap_err().to_string(), words);
+        }
+        bar.write(0, 0x0403_0201).unwrap();
+        bar.write(0xffc, 0x0807_0605).unwrap();
+        let mut bytes = [0; 0x3000];
+        file.read_exact_at(&mut bytes, 0).unwrap();
+        assert_eq!(
+            (&bytes[0x1000..0x1004], &bytes[0x1ffc..0x2000]),
+            (&[1, 2, 3, 4][..], &[5, 6, 7, 8][..])
+        );
+        assert_eq!(bytes.iter().filter(|byte| **byte != 0).count(), 8);
+        assert_eq!(bar.read(0xffc).unwrap(), 0x0807_0605);
+    }
+}

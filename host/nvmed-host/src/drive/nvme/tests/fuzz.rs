@@ -1,10 +1,11 @@
 #![forbid(unsafe_code)]
 //! Random pages, completions and properties: a refusal or a drive, and never more than that.
 
+use super::recovery::Side;
 use super::*;
 use crate::drive::nvme::bytes::put;
 use crate::drive::nvme::identify::{ControllerPage, Limits, NamespacePage};
-use crate::drive::nvme::{Capabilities, TRANSFER};
+use crate::drive::nvme::{Capabilities, RESETS, TRANSFER};
 
 struct Random(u64);
 
@@ -100,4 +101,103 @@ fn admin_completions() {
         let _ = n.close();
     }
     assert!(failures > 100);
+}
+
+/// Completions of a lane with random bytes, and doorbells with any value: the first failure stays, and the controller can be closed.
+#[test]
+fn lane_completions() {
+    let mut random = Random(0xabcd_5678_9abc_def1);
+    let (mut failures, mut resets) = (0, 0);
+    for _ in 0..1000 {
+        let bench = Bench::new();
+        let mut n = bench.running();
+        let mut failed = String::new();
+        for _ in 0..40 {
+            let lane = random.below(2) as usize;
+            let at = rings(lane as u32).completion + 16 * random.below(65) + 4 * random.below(4);
+            bench.memory.put(at, &(random.next() as u32).to_le_bytes());
+            bench.fake().mute = (random.below(3) == 0).then_some(0xa5);
+            bench.fake().time += random.below(3000);
+            let value = random.below(66) as u32;
+            let rung = if random.below(2) == 0 {
+                n.ring_submission(lane, value)
+            } else {
+                n.ring_completion(lane, value)
+            };
+            assert!(value < 65 || rung.is_err());
+            let done = if random.below(2) == 0 { n.work() } else { n.check() };
+            if failed.is_empty() {
+                failed = words(done);
+            } else {
+                assert_eq!(words(done), failed);
+            }
+        }
+        failures += u32::from(!failed.is_empty());
+        resets += bench.seen().enables - 1;
+        n.close().unwrap();
+        assert_eq!(bench.seen().cc & 1, 0);
+    }
+    assert!(failures > 10 && resets > 100, "{failures} failures, {resets} resets");
+}
+
+/// A reset, by one of its three ways.
+fn reset(random: &mut Random, bench: &Bench, n: &mut Controller<FakeAccess>) {
+    match random.below(3) {
+        0 => n.reset().unwrap(),
+        way => {
+            bench.fake().csts = if way == 1 { 3 } else { 0 };
+            n.check().unwrap();
+        }
+    }
+}
+
+/// Commands, losses, Aborts and resets at any moment: each command is completed once, those that the controller has lost with an error, and no other.
+#[test]
+fn commands_and_resets() {
+    let mut random = Random(0x0dd0_5678_9abc_def1);
+    let (mut losses, mut aborts, mut enables) = (0, 0, 0);
+    for _ in 0..300 {
+        let bench = Bench::new();
+        let mut n = bench.running();
+        let mut sides = [Side::new(0), Side::new(1)];
+        let mut resets = 0;
+        for _ in 0..100 {
+            let side = &mut sides[random.below(2) as usize];
+            match random.below(8) {
+                0 => bench.fake().mute = (random.below(2) == 0).then_some(2),
+                1 if resets + 1 < RESETS && !n.is_recovering() => {
+                    reset(&mut random, &bench, &mut n);
+                    resets += 1;
+                }
+                2..=4 => side.put(&bench, &mut n, random.below(20) as usize),
+                5 => drop(side.take(&bench, &mut n, random.below(8) as usize)),
+                6 => n.work().unwrap(),
+                _ => {
+                    for side in &mut sides {
+                        side.take(&bench, &mut n, 64);
+                    }
+                    bench.fake().time += random.below(2000);
+                    n.check().unwrap();
+                }
+            }
+        }
+        bench.fake().mute = None;
+        for _ in 0..400 {
+            n.work().unwrap();
+            for (lane, side) in sides.iter_mut().enumerate() {
+                side.take(&bench, &mut n, 64);
+                n.abort(lane).unwrap();
+            }
+        }
+        let seen = bench.seen();
+        let failed = sides.iter().flat_map(|side| &side.taken).filter(|taken| taken.1 != 0);
+        assert_eq!((failed.count(), seen.violations), (seen.losses, 0));
+        assert!(sides.iter().all(|side| side.outstanding.is_empty()) && !n.is_recovering());
+        n.close().unwrap();
+        (losses, aborts, enables) = (losses + seen.losses, aborts + seen.aborts, enables + seen.enables - 1);
+    }
+    assert!(
+        losses > 1000 && aborts > 100 && enables > 300,
+        "{losses} losses, {aborts} Aborts, {enables} resets"
+    );
 }

@@ -5,20 +5,20 @@ use super::*;
 use crate::drive::nvme::{ABORT_AFTER, RESETS, RESET_AFTER};
 
 /// The mediator's side of a lane: what it put, and what it took.
-struct Side {
+pub(super) struct Side {
     lane: usize,
     rings: LaneRings,
     tail: u32,
     head: u32,
     phase: bool,
     next_id: u16,
-    outstanding: Vec<u16>,
+    pub(super) outstanding: Vec<u16>,
     /// Identifier and status of each completion.
-    taken: Vec<(u16, u16)>,
+    pub(super) taken: Vec<(u16, u16)>,
 }
 
 impl Side {
-    fn new(lane: usize) -> Self {
+    pub(super) fn new(lane: usize) -> Self {
         let rings = rings(lane as u32);
         Self {
             lane,
@@ -33,7 +33,7 @@ impl Side {
     }
 
     /// Puts Reads of identifiers below 64.
-    fn put(&mut self, bench: &Bench, n: &mut Controller<FakeAccess>, count: usize) {
+    pub(super) fn put(&mut self, bench: &Bench, n: &mut Controller<FakeAccess>, count: usize) {
         for _ in 0..count.min(64 - self.outstanding.len()) {
             while self.outstanding.contains(&self.next_id) {
                 self.next_id = (self.next_id + 1) % 64;
@@ -52,7 +52,7 @@ impl Side {
     }
 
     /// Takes what is there, as a mediator does; each completion has to name a command that is outstanding.
-    fn take(&mut self, bench: &Bench, n: &mut Controller<FakeAccess>, most: usize) -> usize {
+    pub(super) fn take(&mut self, bench: &Bench, n: &mut Controller<FakeAccess>, most: usize) -> usize {
         let mut count = 0;
         while count < most {
             let entry = bench.memory.get(self.rings.completion + 16 * u64::from(self.head), 16);

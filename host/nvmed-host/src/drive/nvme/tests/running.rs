@@ -2,6 +2,7 @@
 
 use super::*;
 use crate::drive::nvme::Event;
+use crate::log::tests::said_by;
 
 #[test]
 fn doorbells_reach_their_registers() {
@@ -111,6 +112,26 @@ fn events_are_asked_for_reported_and_read() {
     assert_eq!(bench.seen().violations, 0);
 }
 
+/// The page "SMART / Health Information": byte 0 is the critical warning, bytes 1 and 2 are the temperature in kelvins, 3 the spare and 5 the percentage used.
+#[test]
+fn the_drives_health_is_said() {
+    let bench = Bench::with(|f| f.log[..6].copy_from_slice(&[2, 0x57, 1, 90, 10, 3]));
+    let mut n = bench.running();
+    let said = said_by(|| {
+        assert!(bench.fake().raise(0x02_01_01));
+        for _ in 0..4 {
+            n.work().unwrap();
+        }
+    });
+    assert_eq!(
+        said,
+        [
+            "WARN  the drive reports the temperature is beyond a threshold (event type 1, information 0x01, log page 0x02)",
+            "WARN  the drive's health: critical warning 0x02, 343 K, spare 90 %, used 3 %",
+        ]
+    );
+}
+
 #[test]
 fn a_persistent_internal_error_fails_the_drive() {
     let bench = Bench::new();
@@ -180,9 +201,13 @@ fn events_have_words() {
         (0x01_00_00, "a write of an invalid doorbell register"),
         (0x01_01_00, "an invalid value was written to a doorbell"),
         (0x01_02_00, "a diagnostic failure"),
+        (0x01_03_00, "a persistent internal error"),
+        (0x01_04_00, "a transient internal error"),
         (0x01_05_00, "a firmware image"),
         (0x02_00_01, "the reliability of the drive is degraded"),
+        (0x02_01_01, "the temperature is beyond a threshold"),
         (0x02_02_01, "the spare capacity"),
+        (0x04_00_02, "the attributes of a namespace have changed"),
         (0x03_01_02, "firmware is about to be activated"),
         (0x07_02_02, "the telemetry log"),
         (0xaa_bb_07, "event type 7, information 0xbb, log page 0xaa"),

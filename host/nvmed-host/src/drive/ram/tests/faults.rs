@@ -2,6 +2,7 @@
 
 use super::super::store::faulty::{Call, Fault, FaultyStore};
 use super::*;
+use crate::log::tests::said_by;
 
 const READ: u8 = 2;
 const WRITE: u8 = 1;
@@ -57,6 +58,41 @@ fn errors_have_statuses() {
         }
         rig.close().expect("nothing was lost");
     }
+}
+
+/// Of each kind of error the first one is said, with the kernel's reason, and not what further ones may be.
+#[test]
+fn an_error_is_said_once() {
+    let (store, mut rig) = rigs().remove(0);
+    let said = said_by(|| {
+        for _ in 0..3 {
+            for (opcode, call, error) in [
+                (READ, Call::Read, libc::EIO),
+                (WRITE, Call::Write, libc::ENOSPC),
+                (ZEROES, Call::Zero, libc::EIO),
+                (WRITE, Call::Write, libc::EFAULT),
+            ] {
+                store.fail(call, Fault::Error(error));
+                assert_ne!(rig.run(entry(opcode, DATA, 0, 5, 7)), 0);
+            }
+        }
+    });
+    let line = |what, why| {
+        format!("ERROR the drive cannot {what}: {why}; further errors of this kind are answered and not reported")
+    };
+    let (io, room) = (
+        "Input/output error (os error 5)",
+        "No space left on device (os error 28)",
+    );
+    assert_eq!(
+        said,
+        [
+            line("read its image", io),
+            line("write its image, which has no room to grow", room),
+            line("write its image", io),
+        ]
+    );
+    rig.close().expect("nothing was lost");
 }
 
 /// What the finding on the old program was: an error was reported once, to whoever flushed first, and then forgotten.
