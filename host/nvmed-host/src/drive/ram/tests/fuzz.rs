@@ -1,7 +1,6 @@
 //! Random entries, lists and ranges: whatever they say, each command is completed once, and nothing else is touched.
 
 use super::super::store::faulty::{Call, Fault, FaultyStore};
-use super::crash::Random;
 use super::*;
 
 /// Where lists and data of these tests lie: commands may overwrite each other's.
@@ -50,7 +49,7 @@ fn random_entry(random: &mut Random) -> Entry {
 }
 
 /// Fills a page of the room with what may be a list of pages or of ranges.
-fn scribble(rig: &Rig, random: &mut Random) {
+fn scribble(rig: &RamRig, random: &mut Random) {
     let page = DATA + random.below(ROOM / 0x1000) * 0x1000;
     for i in 0..512 {
         let word = match random.below(4) {
@@ -62,7 +61,7 @@ fn scribble(rig: &Rig, random: &mut Random) {
     }
 }
 
-fn run(rig: &mut Rig, random: &mut Random, rounds: u32, mut each: impl FnMut(&mut Random)) {
+fn run(rig: &mut RamRig, random: &mut Random, rounds: u32, mut each: impl FnMut(&mut Random)) {
     let mut outstanding = Vec::new();
     let mut statuses = [0u32; 0x800];
     for _ in 0..rounds {
@@ -107,7 +106,7 @@ fn run(rig: &mut Rig, random: &mut Random, rounds: u32, mut each: impl FnMut(&mu
 }
 
 /// What no command may reach: all but the pieces, and the rings' neighbours.
-fn untouched(rig: &Rig) -> Vec<Vec<u8>> {
+fn untouched(rig: &RamRig) -> Vec<Vec<u8>> {
     [(0, LOW), (0x90000, HIGH - 0x90000), (0x9a000, 0x66000)]
         .map(|(from, bytes)| rig.memory.get(from, bytes as usize))
         .to_vec()
@@ -147,9 +146,9 @@ fn random_commands_on_a_store_that_waits_and_fails() {
 #[test]
 fn random_commands_do_what_a_plain_model_does() {
     let mut random = Random::new(13);
-    let folder = super::image::Folder::new();
+    let folder = Folder::new();
     for kind in 0..4 {
-        let mut rig = match kind {
+        let rig = match kind {
             0 => Rig::usual(),
             1 => Rig::over(Arc::new(FaultyStore::new(true, BLOCKS)), BLOCKS),
             2 => super::image::open(&folder.file("image")).expect("a drive"),
@@ -161,50 +160,7 @@ fn random_commands_do_what_a_plain_model_does() {
                 rig
             }
         };
-        let mut disk = vec![0u8; BLOCKS as usize * 512];
-        for i in 0..31u64 {
-            rig.memory.put64(LIST + 8 * i, DATA + 0x1000 * (i + 1));
-        }
-        for round in 0..if kind == 2 { 300 } else { 1500u32 } {
-            let count = 1 + random.below(256);
-            let first = random.below(BLOCKS - count + 1);
-            let bytes = first as usize * 512..(first + count) as usize * 512;
-            let prp2 = if count > 16 { LIST } else { DATA + 0x1000 };
-            let mut one = |opcode, first, d12| rig.run(entry(opcode, DATA, prp2, first, d12));
-            let forced = if random.below(if kind == 2 { 20 } else { 3 }) == 0 {
-                FORCED
-            } else {
-                0
-            };
-            match random.below(5) {
-                0 => {
-                    assert_eq!(one(8, first, (count as u32 - 1) | forced), 0);
-                    disk[bytes].fill(0);
-                }
-                1 => {
-                    assert_eq!(one(2, first, (count as u32 - 1) | forced), 0);
-                    assert!(rig.memory.get(DATA, bytes.len()) == disk[bytes]);
-                }
-                2 => {
-                    let same = rig.memory.get(DATA, bytes.len()) == disk[bytes.clone()];
-                    assert_eq!(
-                        rig.run(entry(5, DATA, prp2, first, count as u32 - 1)),
-                        if same { 0 } else { 0x285 }
-                    );
-                }
-                3 => {
-                    rig.memory.put32(HIGH + 4, count as u32);
-                    rig.memory.put64(HIGH + 8, first);
-                    assert_eq!(rig.run(entry(9, HIGH, 0, 4 << 32, 0)), 0);
-                    disk[bytes].fill(0);
-                }
-                _ => {
-                    rig.memory.fill(DATA + random.below(0x1f000), 0x1000, round as u8);
-                    assert_eq!(rig.run(entry(1, DATA, prp2, first, (count as u32 - 1) | forced)), 0);
-                    disk[bytes.clone()].copy_from_slice(&rig.memory.get(DATA, bytes.len()));
-                }
-            }
-        }
-        rig.close().expect("a clean end");
+        let (rounds, forced) = if kind == 2 { (300, 20) } else { (1500, 3) };
+        does_what_a_plain_model_does(rig, &mut random, rounds, forced);
     }
 }

@@ -4,10 +4,8 @@
 
 use vm_memory::VolatileSlice;
 
-use crate::drive::entry::{
-    opcode, Status, Submission, ALL_NAMESPACES, BLOCK_BYTES, MOST_BLOCKS, NAMESPACE, RANGE_BYTES,
-};
-use crate::drive::prp::{Places, PrpError, SharedMemory};
+use super::entry::{opcode, Status, Submission, ALL_NAMESPACES, BLOCK_BYTES, MOST_BLOCKS, NAMESPACE, RANGE_BYTES};
+use super::prp::{Places, PrpError, SharedMemory};
 
 /// Which way a transfer goes.
 #[derive(Clone, Copy, Debug, PartialEq, Eq)]
