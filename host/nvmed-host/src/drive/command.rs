@@ -60,6 +60,19 @@ pub struct Clearing {
     pub gives_back: bool,
 }
 
+impl Clearing {
+    /// Takes the next bytes away, which are zero now: `bytes` of the last extent at most. Whether nothing is left.
+    pub fn advance(&mut self, bytes: u64) -> bool {
+        if let Some(extent) = self.left.last_mut() {
+            extent.from += bytes.min(extent.to - extent.from);
+            if extent.from == extent.to {
+                self.left.pop();
+            }
+        }
+        self.left.is_empty()
+    }
+}
+
 /// What is to be done.
 #[derive(Clone, Debug)]
 pub enum Step {

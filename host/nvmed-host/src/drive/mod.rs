@@ -6,6 +6,8 @@
 mod command;
 pub mod entry;
 mod failure;
+pub mod file;
+mod image;
 mod lane;
 mod lanes;
 pub mod nvme;

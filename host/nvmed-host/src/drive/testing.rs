@@ -13,7 +13,7 @@ use vm_memory::mmap::MmapRegion;
 use vm_memory::{Bytes, VolatileMemory, VolatileSlice};
 
 use super::prp::SharedMemory;
-use super::{Budget, Drive, DriveError, LaneRings};
+use super::{Budget, Drive, DriveError, LaneRings, Progress};
 
 /// Where things are in the memory of these tests.
 pub const LOW: u64 = 0x10000;
@@ -298,14 +298,17 @@ pub fn does_what_a_plain_model_does<D: Drive + 'static>(
     forced: u64,
 ) {
     let mut disk = vec![0u8; BLOCKS as usize * 512];
-    for i in 0..31u64 {
+    for i in 0..32u64 {
         rig.memory.put64(LIST + 8 * i, DATA + 0x1000 * (i + 1));
     }
     for round in 0..rounds {
         let count = 1 + random.below(256);
         let first = random.below(BLOCKS - count + 1);
         let bytes = first as usize * 512..(first + count) as usize * 512;
-        let prp2 = if count > 16 { LIST } else { DATA + 0x1000 };
+        let offset = [0, 512 * random.below(8), 4 * random.below(1024)][random.below(3) as usize];
+        let at = DATA + offset;
+        let is_long = offset + 512 * count > 0x2000;
+        let prp2 = if is_long { LIST } else { DATA + 0x1000 };
         let fua = if random.below(forced) == 0 { FORCED } else { 0 };
         let d12 = (count as u32 - 1) | fua;
         match random.below(5) {
@@ -315,13 +318,13 @@ pub fn does_what_a_plain_model_does<D: Drive + 'static>(
                 disk[bytes].fill(0);
             }
             1 => {
-                assert_eq!(rig.run(entry(2, DATA, prp2, first, d12)), 0);
-                assert!(rig.memory.get(DATA, bytes.len()) == disk[bytes]);
+                assert_eq!(rig.run(entry(2, at, prp2, first, d12)), 0);
+                assert!(rig.memory.get(at, bytes.len()) == disk[bytes]);
             }
             2 => {
-                let same = rig.memory.get(DATA, bytes.len()) == disk[bytes.clone()];
+                let same = rig.memory.get(at, bytes.len()) == disk[bytes.clone()];
                 let expected = if same { 0 } else { 0x285 };
-                assert_eq!(rig.run(entry(5, DATA, prp2, first, count as u32 - 1)), expected);
+                assert_eq!(rig.run(entry(5, at, prp2, first, count as u32 - 1)), expected);
             }
             3 => {
                 rig.memory.put32(HIGH + 4, count as u32);
@@ -331,10 +334,118 @@ pub fn does_what_a_plain_model_does<D: Drive + 'static>(
             }
             _ => {
                 rig.memory.fill(DATA + random.below(0x1f000), 0x1000, round as u8);
-                assert_eq!(rig.run(entry(1, DATA, prp2, first, d12)), 0);
-                disk[bytes.clone()].copy_from_slice(&rig.memory.get(DATA, bytes.len()));
+                assert_eq!(rig.run(entry(1, at, prp2, first, d12)), 0);
+                disk[bytes.clone()].copy_from_slice(&rig.memory.get(at, bytes.len()));
             }
         }
     }
     rig.close().expect("a clean end");
+}
+
+/// Where lists and data of these tests lie: commands may overwrite each other's.
+const ROOM: u64 = 0x60000;
+
+/// An address that is good, or nearly so.
+fn address(random: &mut Random) -> u64 {
+    let good = DATA + random.below(ROOM / 8) * 8;
+    match random.below(16) {
+        0 => random.next(),
+        1 => HIGH + random.below(0x3000),
+        2 => LOW.wrapping_sub(random.below(0x2000)),
+        3 => u64::MAX - random.below(0x2000),
+        4 => good + random.below(8),
+        5..=10 => good & !0xfff,
+        _ => good,
+    }
+}
+
+fn random_entry(random: &mut Random) -> Entry {
+    let opcodes = [1, 1, 2, 2, 5, 8, 9, 9, 0];
+    let opcode = match random.below(20) {
+        0 => random.next() as u8,
+        _ => opcodes[random.below(opcodes.len() as u64) as usize],
+    };
+    let first = match random.below(12) {
+        0 => random.next(),
+        1 => BLOCKS - random.below(300),
+        _ if opcode == 9 => random.below(256) | random.below(8) << 32,
+        _ => random.below(BLOCKS),
+    };
+    let blocks = match random.below(8) {
+        0 => random.next() as u32 & 0xffff,
+        1 => random.below(600) as u32,
+        _ => random.below(64) as u32,
+    };
+    Entry {
+        opcode,
+        flags: if random.below(30) == 0 { random.next() as u8 } else { 0 },
+        namespace: if random.below(30) == 0 { random.next() as u32 } else { 1 },
+        prp1: address(random),
+        prp2: address(random),
+        first,
+        d12: blocks | (random.next() as u32 & 0xffff_0000),
+    }
+}
+
+/// Fills a page of the room with what may be a list of pages or of ranges.
+fn scribble<D: Drive + 'static>(rig: &Rig<D>, random: &mut Random) {
+    let page = DATA + random.below(ROOM / 0x1000) * 0x1000;
+    for i in 0..512 {
+        let word = match random.below(4) {
+            0 => random.below(BLOCKS),
+            1 => random.below(64) << 32,
+            _ => address(random),
+        };
+        rig.memory.put64(page + 8 * i, word);
+    }
+}
+
+/// Random entries, lists and ranges: each command is completed once, whatever they say. `each` is called before each of the rounds.
+pub fn survives_random_commands<D: Drive + 'static>(
+    rig: &mut Rig<D>,
+    random: &mut Random,
+    rounds: u32,
+    mut each: impl FnMut(&mut Random),
+) {
+    let mut outstanding = Vec::new();
+    let mut statuses = [0u32; 0x800];
+    for _ in 0..rounds {
+        each(random);
+        if random.below(4) == 0 {
+            scribble(rig, random);
+        }
+        if outstanding.len() < 60 {
+            let entry = random_entry(random);
+            outstanding.push(rig.put(&entry));
+        }
+        if random.below(3) == 0 {
+            rig.ring();
+        }
+        let budget = Budget {
+            commands: random.below(8) as u32,
+            bytes: random.below(200_000),
+        };
+        rig.drive.work(budget).expect("work");
+        rig.drive.woken();
+        while random.below(8) != 0 {
+            let Some((command, status)) = rig.reap() else { break };
+            let index = outstanding
+                .iter()
+                .position(|other| *other == command)
+                .expect("a command that is outstanding");
+            outstanding.swap_remove(index);
+            statuses[usize::from(status & 0x7ff)] += 1;
+        }
+    }
+    rig.ring();
+    while !outstanding.is_empty() {
+        let (command, status) = rig.wait();
+        outstanding.retain(|other| *other != command);
+        statuses[usize::from(status & 0x7ff)] += 1;
+    }
+    // All kinds of answers came: the inputs reach every check.
+    for status in [0, 1, 2, 4, 0xb, 0x13, 0x80, 0x285] {
+        assert!(statuses[status] > 0, "no status {status:#x}");
+    }
+    assert_eq!(rig.drive.work(AMPLE).expect("work"), Progress::default());
 }

@@ -6,7 +6,7 @@ use std::io;
 use vm_memory::VolatileSlice;
 
 use super::store::{Store, Wait};
-use crate::drive::command::{Clearing, Extent, Kind, Step, Transfer};
+use crate::drive::command::{Clearing, Kind, Step, Transfer};
 use crate::drive::entry::Status;
 use crate::drive::failure::Failure;
 use crate::drive::prp::{SharedMemory, PAGE_BYTES};
@@ -135,7 +135,7 @@ impl<M: SharedMemory + ?Sized> Carrier<'_, M> {
         if self.failure.reason().is_some() {
             return (Outcome::Done(Status::WRITE_FAULT_FOR_EVER), 0);
         }
-        let Some(extent) = clearing.left.last_mut() else {
+        let Some(extent) = clearing.left.last().copied() else {
             return (Outcome::Done(Status::GOOD), 0);
         };
         let from = self.store.next_data(extent.from, extent.to);
@@ -148,16 +148,10 @@ impl<M: SharedMemory + ?Sized> Carrier<'_, M> {
         } else {
             Ok(())
         };
-        *extent = Extent {
-            from: to,
-            to: extent.to,
-        };
-        if extent.from == extent.to {
-            clearing.left.pop();
-        }
+        let is_over = clearing.advance(to - extent.from);
         let outcome = match zeroed {
             Err(error) => Outcome::Done(self.status_of(true, &error)),
-            Ok(()) if clearing.left.is_empty() => Outcome::Done(Status::GOOD),
+            Ok(()) if is_over => Outcome::Done(Status::GOOD),
             Ok(()) => Outcome::More,
         };
         // Even a look for data that found none is some work.
