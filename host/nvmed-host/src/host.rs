@@ -16,6 +16,7 @@ use nvmed::Mediator;
 use vm_memory::VolatileSlice;
 
 use crate::config::{Config, Connection, Doorbells, DriveConfig, GuestConfig, Interrupts, BLOCK};
+use crate::drive::file::FileDrive;
 use crate::drive::nvme::Needs;
 use crate::drive::opening::{Open, OpeningDrive, Tell};
 use crate::drive::prp::SharedMemory;
@@ -418,7 +419,7 @@ fn raise_limits() {
 
 fn plan(config: &Config) -> Result<Layout, HostError> {
     match &config.drive {
-        DriveConfig::Ram { .. } => Ok(Layout::plan(config, Room::Reaches(&[ALL]))?),
+        DriveConfig::Ram { .. } | DriveConfig::File { .. } => Ok(Layout::plan(config, Room::Reaches(&[ALL]))?),
         DriveConfig::Qemu { memory, .. } => {
             let line = config.drive_line;
             let file = GuestFile::existing(memory).map_err(|error| HostError::DriveFile { line, error })?;
@@ -521,6 +522,10 @@ fn find_drive(config: &Config, layout: &Layout, window: &Arc<Window>) -> Result<
                 None => Box::new(RamDrive::in_memory(memory, blocks)?),
             })
         }),
+        DriveConfig::File { path } => {
+            let blocks = config.blocks();
+            Box::new(move || Ok(Box::new(FileDrive::open(memory, &path, blocks)?)))
+        }
         DriveConfig::Qemu { socket, .. } => {
             let found = FoundQemu::at(&socket, reached, needs)?;
             Box::new(move || Ok(Box::new(found.open()?)))

@@ -10,7 +10,7 @@ use std::time::{Duration, Instant};
 
 use client::hostile::{odd_descriptors, Hostile};
 use client::Client;
-use guest::{configuration, is_real, Folder};
+use guest::{configuration, drive_file, is_real, Folder};
 use nix::sys::signal::Signal;
 use program::{connect, run, Program};
 
@@ -20,6 +20,7 @@ fn words_and_statuses() {
     assert_eq!(status, 0);
     for line in [
         "drive ram SIZE [FILE]",
+        "drive file PATH",
         "drive qemu",
         "drive vfio",
         "lanes N",
@@ -86,6 +87,46 @@ fn a_signal_ends_it_cleanly() {
             assert_eq!(bytes, [7; 4096]);
         }
     }
+}
+
+/// A file that is there is the drive: it is opened, locked, written directly, and keeps its length.
+#[test]
+fn a_file_is_the_drive() {
+    let folder = Folder::new("file-drive");
+    let Some(path) = drive_file(&folder) else { return };
+    let drive = format!("drive file {}", path.display());
+    let text = configuration(&folder, 1, "").replace("drive ram 16M", &drive);
+    let mut program = Program::start(&folder, &text, &[]);
+    let mut guest = connect(&folder, "g0");
+    if is_real() {
+        guest.bring_up().unwrap();
+        assert_eq!(guest.write_blocks(8, 7).unwrap().status, 0);
+        assert_eq!(guest.command(1, 0, 0, [0; 3]).unwrap().status, 0, "a Flush");
+        assert_eq!(guest.read_blocks(8).unwrap(), [7; 4096]);
+    }
+    program.signal(Signal::SIGTERM);
+    assert_eq!(program.status(), 0);
+    let said = program.said();
+    let line = format!("the drive: 32768 blocks in the file {}", path.display());
+    assert!(said.contains(&line), "{said}");
+    let bytes = std::fs::read(&path).unwrap();
+    assert_eq!(bytes.len(), 16 << 20);
+    assert!(bytes[..4096].iter().all(|byte| *byte == 0));
+    if is_real() {
+        assert_eq!(bytes[4096..8192], [7; 4096]);
+    }
+    // the extents do not fit into one that is shorter
+    std::fs::File::options()
+        .write(true)
+        .open(&path)
+        .unwrap()
+        .set_len(4096)
+        .unwrap();
+    let mut program = Program::start(&folder, &text, &[]);
+    assert_eq!(program.status(), 1);
+    let said = program.said();
+    let words = "has 8 blocks of 512 bytes, and the extents need 2048";
+    assert!(said.contains("line 1: the drive: ") && said.contains(words), "{said}");
 }
 
 #[test]

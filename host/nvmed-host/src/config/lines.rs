@@ -364,7 +364,7 @@ impl Draft {
         Ok(())
     }
 
-    /// `drive ram SIZE [FILE]`, `drive qemu SOCKET FILE` or `drive vfio ADDRESS`
+    /// `drive ram SIZE [FILE]`, `drive file PATH`, `drive qemu SOCKET FILE` or `drive vfio ADDRESS`
     fn on_drive(&mut self, line: u32, words: &[Vec<u8>]) -> Outcome {
         once(&self.drive, "the drive stands")?;
         let value = match (word(words, 1), words.get(3)) {
@@ -372,6 +372,10 @@ impl Draft {
                 bytes: size("the drive", word(words, 2), MOST_MEMORY)?,
                 image: image.map(|image| self.new_file("the drive", image)).transpose()?,
             },
+            (b"file", None) => DriveConfig::File {
+                path: self.new_file("the drive", word(words, 2))?,
+            },
+            (b"file", Some(_)) => return Err(String::from("'drive file' has one path")),
             (b"qemu", Some(memory)) => DriveConfig::Qemu {
                 socket: path("the socket", word(words, 2), MOST_SOCKET)?,
                 memory: self.new_file("the drive's memory", memory)?,
@@ -381,7 +385,12 @@ impl Draft {
             (b"vfio", None) => DriveConfig::Vfio {
                 address: pci_address(word(words, 2))?,
             },
-            (kind, _) => return Err(format!("the drive is none of ram, qemu and vfio: {}", shown(kind))),
+            (kind, _) => {
+                return Err(format!(
+                    "the drive is none of ram, file, qemu and vfio: {}",
+                    shown(kind)
+                ))
+            }
         };
         self.drive = Some(Said { value, line });
         Ok(())
@@ -427,8 +436,9 @@ impl Draft {
         let new = path(what, text, MOST_PATH)?;
         let of_drive = match self.drive.as_ref().map(|drive| &drive.value) {
             Some(DriveConfig::Ram { image, .. }) => image.as_ref(),
+            Some(DriveConfig::File { path }) => Some(path),
             Some(DriveConfig::Qemu { memory, .. }) => Some(memory),
-            _ => None,
+            Some(DriveConfig::Vfio { .. }) | None => None,
         };
         if of_drive
             .into_iter()

@@ -97,6 +97,11 @@ pub enum DriveConfig {
         /// The file that holds its blocks; without one they are in memory.
         image: Option<PathBuf>,
     },
+    /// A file or a block device: `drive file PATH`.
+    File {
+        /// Where it is.
+        path: PathBuf,
+    },
     /// The controller of a QEMU: `drive qemu SOCKET FILE`.
     Qemu {
         /// Where its qtest listens.

@@ -238,6 +238,7 @@ fn lines_and_words() {
         "listen 0",
         "start 0",
         "drive ram",
+        "drive file",
         "lanes",
         "spin",
         "trust",
@@ -419,8 +420,17 @@ fn files() {
         "guest 0 memory 4K m\ndrive ram 4K m\n",
         &format!("line 2: the drive {taken}"),
     );
+    refused(
+        "drive file m\nguest 0 memory 4K m\n",
+        &format!("line 2: the guest's memory {taken}"),
+    );
+    refused(
+        "guest 0 memory 4K m\ndrive file m\n",
+        &format!("line 2: the drive {taken}"),
+    );
     for (form, what, most) in [
         ("drive ram 4K PATH", "the drive", MOST_PATH),
+        ("drive file PATH", "the drive", MOST_PATH),
         ("guest 0 memory 4K PATH", "the guest's memory", MOST_PATH),
         ("drive qemu a PATH", "the drive's memory", MOST_PATH),
         ("drive qemu PATH a", "the socket", MOST_SOCKET),
@@ -700,14 +710,19 @@ fn drives() {
         "line 1: the drive is 65537G, more than 70368744177664 bytes",
     );
     refused("drive ram 4K \"\"\n", "line 1: the drive has an empty path");
+    refused("drive file \"\"\n", "line 1: the drive has an empty path");
+    let drive = good(&format!("drive file /dev/vg/disk\n{G0}extent 0 7 9000\nlisten 0 a\n")).drive;
+    let path = PathBuf::from("/dev/vg/disk");
+    assert_eq!(drive, DriveConfig::File { path });
     refused(
         "drive disk 4K\n",
-        "line 1: the drive is none of ram, qemu and vfio: disk",
+        "line 1: the drive is none of ram, file, qemu and vfio: disk",
     );
     refused(
         "drive qemu a\n",
         "line 1: 'drive qemu' has a socket and the file of its memory",
     );
+    refused("drive file a b\n", "line 1: 'drive file' has one path");
     refused("drive vfio 0000:01:00.0 a\n", "line 1: 'drive vfio' has one address");
     for address in [
         "01:00.0",

@@ -67,6 +67,8 @@ impl Status {
     pub const OUT_OF_RANGE: Status = Status(Self::DO_NOT_RETRY | 0x80);
     /// Capacity Exceeded: the drive's image has no room left where it lies. There may be some later.
     pub const CAPACITY_EXCEEDED: Status = Status(0x81);
+    /// Namespace Not Ready of a drive that is gone.
+    pub const NOT_READY_FOR_EVER: Status = Status(Self::DO_NOT_RETRY | 0x82);
     /// Write Fault: the data could not be committed to the media.
     pub const WRITE_FAULT: Status = Status(0x280);
     /// Write Fault of a drive that takes no more writes.

@@ -3,7 +3,13 @@
 //! The lanes' rings, lists and data lie in the [`Window`](crate::memory::Window). The mediator writes and reads them; the mediator's thread rings the
 //! doorbells here. No call waits for a controller but those that open one: what takes long goes on in threads of the drive's own.
 
+mod command;
 pub mod entry;
+mod failure;
+pub mod file;
+mod image;
+mod lane;
+mod lanes;
 pub mod nvme;
 pub mod opening;
 pub mod prp;
@@ -11,6 +17,9 @@ pub mod qtest;
 pub mod ram;
 pub mod reached;
 pub mod vfio;
+
+#[cfg(test)]
+mod testing;
 
 use std::os::fd::BorrowedFd;
 

@@ -29,7 +29,7 @@ impl Identity {
     ///
     /// Errors: those of `statx`.
     pub fn of(file: BorrowedFd<'_>) -> io::Result<Self> {
-        let about = status(file)?;
+        let about = status(file, WANTED)?;
         Ok(Self {
             device: libc::makedev(about.stx_dev_major, about.stx_dev_minor),
             inode: about.stx_ino,
@@ -37,9 +37,14 @@ impl Identity {
     }
 }
 
-fn status(file: BorrowedFd<'_>) -> io::Result<libc::statx> {
+/// What is asked of a file here.
+const WANTED: u32 = libc::STATX_INO | libc::STATX_SIZE | libc::STATX_TYPE;
+
+/// What the kernel knows of a descriptor's file, of the fields that the bits `STATX_..` of `wanted` name; those that it knew are in `stx_mask`.
+///
+/// Errors: those of `statx`.
+pub(crate) fn status(file: BorrowedFd<'_>, wanted: u32) -> io::Result<libc::statx> {
     let mut about = MaybeUninit::<libc::statx>::zeroed();
-    let wanted = libc::STATX_INO | libc::STATX_SIZE | libc::STATX_TYPE;
     let flags = libc::AT_EMPTY_PATH | libc::AT_STATX_DONT_SYNC;
     // SAFETY: the path is an empty text that ends with a NUL, and `about` has room for the answer and lives through the call.
     let result = unsafe { libc::statx(file.as_raw_fd(), c"".as_ptr(), flags, wanted, about.as_mut_ptr()) };
@@ -224,7 +229,7 @@ impl GuestFile {
         let file =
             Flock::lock(OwnedFd::from(file), FlockArg::LockExclusiveNonblock).map_err(|_| FileError::Used { name })?;
         // the length counts once the lock is held
-        let has = status(file.as_fd()).map_err(FileError::Look)?.stx_size;
+        let has = status(file.as_fd(), WANTED).map_err(FileError::Look)?.stx_size;
         if has == 0 {
             grow(file.as_fd(), bytes).map_err(|error| FileError::Grow {
                 path: path.into(),
@@ -286,7 +291,7 @@ impl GuestFile {
             Err(error) if trust == Trust::Sealed => return Err(FileError::Unsealed(error)),
             _ => {}
         }
-        let about = status(file.as_fd()).map_err(FileError::Look)?;
+        let about = status(file.as_fd(), WANTED).map_err(FileError::Look)?;
         if u32::from(about.stx_mode) & libc::S_IFMT != libc::S_IFREG {
             return Err(FileError::NotRegular { name: name() });
         }

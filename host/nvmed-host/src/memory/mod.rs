@@ -11,6 +11,7 @@ mod guest;
 mod window;
 
 pub use expected::{Expected, MapRequest, Part, Refusal};
+pub(crate) use file::status;
 pub use file::{FileError, GuestFile, Identity, Trust};
 pub use guest::{GuestMemory, MapError};
 pub use window::{MemoryError, Piece, Window, MOST_PIECES, PAGE, WINDOW_END};

@@ -53,6 +53,19 @@ impl Drop for Folder {
     }
 }
 
+/// A file for `drive file` in the folder, of 32,768 blocks; `None` where the kernel or the file system lets no file be one.
+pub fn drive_file(folder: &Folder) -> Option<PathBuf> {
+    let path = folder.path("drive");
+    File::create(&path).unwrap().set_len(16 * MIB).unwrap();
+    let window = nvmed_host::memory::Window::reserve(4096).unwrap();
+    let opened = nvmed_host::drive::file::FileDrive::open(window, &path, 1);
+    let Err(error) = opened else { return Some(path) };
+    let said = error.to_string();
+    assert!(said.contains("direct I/O") || said.contains("io_uring"), "{said}");
+    println!("left out: {said}");
+    None
+}
+
 /// A configuration with so many guests of 2,048 blocks each, which listen at `gN` in the folder, and further lines.
 pub fn configuration(folder: &Folder, guests: usize, more: &str) -> String {
     let mut text = String::from("drive ram 16M\n");

@@ -19,8 +19,9 @@ impl Random {
 
 /// Lines, most of them good, in any order.
 fn example(random: &mut Random) -> Vec<u8> {
-    const LINES: [&str; 24] = [
+    const LINES: [&str; 25] = [
         "drive ram 1M /a\n",
+        "drive file /f\n",
         "drive qemu /s /m\n",
         "drive vfio 0000:01:00.0\n",
         "lanes 2\n",

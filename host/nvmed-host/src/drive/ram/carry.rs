@@ -1,15 +1,14 @@
 #![forbid(unsafe_code)]
-//! Carries steps out on a store, as far as a budget goes, and finds the status that fits an error.
+//! Carries steps out on a store, as far as a budget goes.
 
 use std::io;
-use std::sync::atomic::{AtomicU32, Ordering};
-use std::sync::OnceLock;
 
 use vm_memory::VolatileSlice;
 
-use super::command::{Clearing, Extent, Kind, Step, Transfer};
 use super::store::{Store, Wait};
+use crate::drive::command::{Clearing, Kind, Step, Transfer};
 use crate::drive::entry::Status;
+use crate::drive::failure::Failure;
 use crate::drive::prp::{SharedMemory, FEW_PLACES, MOST_PLACES, PAGE_BYTES};
 
 /// How far a step came.
@@ -21,61 +20,6 @@ pub enum Outcome {
     More,
     /// It cannot go on without waiting.
     WouldWait,
-}
-
-/// Why the drive takes no more writes, once there is a reason: it is kept for ever.
-#[derive(Debug, Default)]
-pub struct Failure {
-    reason: OnceLock<String>,
-    /// Kinds of errors that were reported, a bit each.
-    reported: AtomicU32,
-}
-
-impl Failure {
-    /// The reason, if there is one.
-    pub fn reason(&self) -> Option<&str> {
-        self.reason.get().map(String::as_str)
-    }
-
-    /// Keeps the first reason, and reports it.
-    pub fn keep(&self, reason: String) {
-        if self.reason.set(reason).is_ok() {
-            if let Some(reason) = self.reason() {
-                tracing::error!(
-                    "the drive takes no more writes, and what was written since its last flush may be lost: {reason}"
-                );
-            }
-        }
-    }
-
-    /// Reports an error of a command, the first of its kind.
-    fn report(&self, what: What, error: &io::Error) {
-        let bit = 1 << what as u32;
-        if self.reported.fetch_or(bit, Ordering::Relaxed) & bit == 0 {
-            tracing::error!(
-                "the drive cannot {}: {error}; further errors of this kind are answered and not reported",
-                what.words()
-            );
-        }
-    }
-}
-
-/// What failed.
-#[derive(Clone, Copy, Debug, PartialEq, Eq)]
-enum What {
-    Read,
-    Write,
-    Room,
-}
-
-impl What {
-    fn words(self) -> &'static str {
-        match self {
-            What::Read => "read its image",
-            What::Write => "write its image",
-            What::Room => "write its image, which has no room to grow",
-        }
-    }
 }
 
 /// What steps are carried out on.
@@ -135,8 +79,7 @@ impl<M: SharedMemory + ?Sized> Carrier<'_, M> {
     }
 
     fn lost(&self, error: &io::Error) -> Status {
-        self.failure.keep(format!("{}: {error}", self.store.describe()));
-        Status::WRITE_FAULT_FOR_EVER
+        self.failure.lost(error, self.store.describe())
     }
 
     /// Where so many bytes of a transfer are, from `from` on, in `N` places at most.
@@ -200,7 +143,7 @@ impl<M: SharedMemory + ?Sized> Carrier<'_, M> {
         if self.failure.reason().is_some() {
             return (Outcome::Done(Status::WRITE_FAULT_FOR_EVER), 0);
         }
-        let Some(extent) = clearing.left.last_mut() else {
+        let Some(extent) = clearing.left.last().copied() else {
             return (Outcome::Done(Status::GOOD), 0);
         };
         let from = self.store.next_data(extent.from, extent.to);
@@ -213,44 +156,18 @@ impl<M: SharedMemory + ?Sized> Carrier<'_, M> {
         } else {
             Ok(())
         };
-        *extent = Extent {
-            from: to,
-            to: extent.to,
-        };
-        if extent.from == extent.to {
-            clearing.left.pop();
-        }
+        let is_over = clearing.advance(to - extent.from);
         let outcome = match zeroed {
             Err(error) => Outcome::Done(self.status_of(true, &error)),
-            Ok(()) if clearing.left.is_empty() => Outcome::Done(Status::GOOD),
+            Ok(()) if is_over => Outcome::Done(Status::GOOD),
             Ok(()) => Outcome::More,
         };
         // Even a look for data that found none is some work.
         (outcome, (to - from).max(PAGE_BYTES))
     }
 
-    /// The status that fits an error of the store.
-    fn status_of(&self, writes: bool, error: &io::Error) -> Status {
-        match error.raw_os_error() {
-            // The guest's memory is no more.
-            Some(libc::EFAULT) => return Status::TRANSFER_ERROR,
-            Some(libc::ENOSPC | libc::EDQUOT | libc::EFBIG) if writes => {
-                self.failure.report(What::Room, error);
-                return Status::CAPACITY_EXCEEDED;
-            }
-            _ => {}
-        }
-        if error.kind() == io::ErrorKind::UnexpectedEof {
-            self.failure
-                .keep(format!("{}: the image was cut off", self.store.describe()));
-        }
-        self.failure
-            .report(if writes { What::Write } else { What::Read }, error);
-        if writes {
-            Status::WRITE_FAULT
-        } else {
-            Status::READ_ERROR
-        }
+    fn status_of(&self, changes: bool, error: &io::Error) -> Status {
+        self.failure.status_of(changes, error, self.store.describe())
     }
 }
 

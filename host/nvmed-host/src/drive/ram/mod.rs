@@ -21,8 +21,6 @@
 //! lost, and blocks can still be read. The same holds for an image that was cut off.
 
 mod carry;
-mod command;
-mod lane;
 mod store;
 mod threads;
 
@@ -34,12 +32,13 @@ use std::os::fd::BorrowedFd;
 use std::path::Path;
 use std::sync::Arc;
 
-use self::carry::{Carrier, Failure, Outcome};
-use self::command::Step;
-use self::lane::Lane;
+use self::carry::{Carrier, Outcome};
 use self::store::{FileStore, MemoryStore, Store, Wait};
 use self::threads::{Task, Threads};
+use super::command::Step;
 use super::entry::{Status, Submission, BLOCK_BYTES};
+use super::failure::Failure;
+use super::lanes::Lanes;
 use super::prp::SharedMemory;
 use super::{Budget, Drive, DriveError, LaneRings, Progress};
 
@@ -57,9 +56,7 @@ pub struct RamDrive<M> {
     blocks: u64,
     failure: Arc<Failure>,
     threads: Threads<M>,
-    lanes: Vec<Lane>,
-    /// The lane whose turn it is.
-    next: usize,
+    lanes: Lanes,
     /// Commands that go on in this thread.
     jobs: VecDeque<Task>,
 }
@@ -100,37 +97,15 @@ impl<M: SharedMemory + 'static> RamDrive<M> {
             blocks,
             failure,
             threads,
-            lanes: Vec::new(),
-            next: 0,
+            lanes: Lanes::default(),
             jobs: VecDeque::new(),
         })
     }
 
-    fn lane(&mut self, lane: usize) -> Result<&mut Lane, DriveError> {
-        self.lanes.get_mut(lane).ok_or_else(|| no_lane(lane))
-    }
-
     fn post(&mut self, turn: &mut Turn, lane: usize, command: u16, status: Status) -> Result<(), DriveError> {
-        let rings = self.lanes.get_mut(lane).ok_or_else(|| no_lane(lane))?;
-        rings.post(&*self.memory, command, status)?;
+        self.lanes.post(&*self.memory, lane, command, status)?;
         turn.completed += 1;
         Ok(())
-    }
-
-    /// The next command of the lanes in turn.
-    fn take(&mut self) -> Result<Option<(usize, Submission)>, DriveError> {
-        let count = self.lanes.len();
-        for _ in 0..count {
-            let lane = self.next;
-            self.next = (lane + 1) % count;
-            let Some(rings) = self.lanes.get_mut(lane) else {
-                continue;
-            };
-            if let Some(entry) = rings.take(&*self.memory)? {
-                return Ok(Some((lane, entry)));
-            }
-        }
-        Ok(None)
     }
 
     /// Begins a command: it is refused, carried out, given to the threads, or becomes a job.
@@ -200,10 +175,6 @@ struct Turn {
     completed: u32,
 }
 
-fn no_lane(lane: usize) -> DriveError {
-    DriveError::Failed(format!("there is no lane {lane}"))
-}
-
 fn bytes_of(blocks: u64) -> Result<u64, DriveError> {
     if (1..=MOST_BLOCKS_OF_DRIVE).contains(&blocks) {
         Ok(blocks * BLOCK_BYTES)
@@ -216,27 +187,15 @@ fn bytes_of(blocks: u64) -> Result<u64, DriveError> {
 
 impl<M: SharedMemory + 'static> Drive for RamDrive<M> {
     fn create_lanes(&mut self, lanes: &[LaneRings]) -> Result<(), DriveError> {
-        if !self.lanes.is_empty() {
-            return Err(DriveError::Unusable("the drive has its lanes already".to_owned()));
-        }
-        if lanes.is_empty() {
-            return Err(DriveError::Unusable("a drive needs at least one lane".to_owned()));
-        }
-        let created = lanes
-            .iter()
-            .enumerate()
-            .map(|(i, rings)| Lane::new(&*self.memory, i, *rings))
-            .collect::<Result<Vec<_>, _>>()?;
-        self.lanes = created;
-        Ok(())
+        self.lanes.create(&*self.memory, lanes)
     }
 
     fn ring_submission(&mut self, lane: usize, tail: u32) -> Result<(), DriveError> {
-        self.lane(lane)?.ring_submission(tail)
+        self.lanes.ring_submission(lane, tail)
     }
 
     fn ring_completion(&mut self, lane: usize, head: u32) -> Result<(), DriveError> {
-        self.lane(lane)?.ring_completion(head)
+        self.lanes.ring_completion(lane, head)
     }
 
     fn work(&mut self, budget: Budget) -> Result<Progress, DriveError> {
@@ -249,7 +208,9 @@ impl<M: SharedMemory + 'static> Drive for RamDrive<M> {
             self.post(&mut turn, finished.lane, finished.command, finished.status)?;
         }
         while turn.commands > 0 && turn.bytes > if self.jobs.is_empty() { 0 } else { budget.bytes / 2 } {
-            let Some((lane, entry)) = self.take()? else { break };
+            let Some((lane, entry)) = self.lanes.take(&*self.memory)? else {
+                break;
+            };
             turn.commands -= 1;
             self.begin(&mut turn, lane, &entry)?;
         }
@@ -257,7 +218,7 @@ impl<M: SharedMemory + 'static> Drive for RamDrive<M> {
             let Some(task) = self.jobs.pop_front() else { break };
             self.go_on(&mut turn, task)?;
         }
-        let more = !self.jobs.is_empty() || self.lanes.iter().any(Lane::has_next);
+        let more = !self.jobs.is_empty() || self.lanes.has_next();
         Ok(Progress {
             completed: turn.completed,
             more,
@@ -283,12 +244,8 @@ impl<M: SharedMemory + 'static> Drive for RamDrive<M> {
     }
 
     fn describe(&self) -> String {
-        let failed = if self.failure.reason().is_some() {
-            "; it takes no more writes"
-        } else {
-            ""
-        };
-        format!("simulated, {} blocks {}{failed}", self.blocks, self.store.describe())
+        let (place, failed) = (self.store.describe(), self.failure.words());
+        format!("simulated, {} blocks {place}{failed}", self.blocks)
     }
 
     fn close(mut self: Box<Self>) -> Result<(), DriveError> {
@@ -298,11 +255,6 @@ impl<M: SharedMemory + 'static> Drive for RamDrive<M> {
                 self.failure.keep(format!("{}: {error}", self.store.describe()));
             }
         }
-        match self.failure.reason() {
-            None => Ok(()),
-            Some(reason) => Err(DriveError::Failed(format!(
-                "the drive has lost writes, look at its image: {reason}"
-            ))),
-        }
+        self.failure.verdict()
     }
 }

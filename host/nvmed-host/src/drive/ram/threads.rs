@@ -14,10 +14,11 @@ use std::thread::JoinHandle;
 
 use nix::sys::eventfd::{EfdFlags, EventFd};
 
-use super::carry::{Carrier, Failure, Outcome};
-use super::command::Step;
+use super::carry::{Carrier, Outcome};
 use super::store::{Store, Wait};
+use crate::drive::command::Step;
 use crate::drive::entry::Status;
+use crate::drive::failure::Failure;
 use crate::drive::prp::SharedMemory;
 
 /// Threads that read. Writes to a file exclude each other, so that one thread is enough for them, and need not be woken for each.

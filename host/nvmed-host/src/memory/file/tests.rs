@@ -46,8 +46,11 @@ fn blocks(path: &Path) -> u64 {
 #[test]
 fn a_file_that_is_made_keeps_its_length() {
     let file = GuestFile::make(MIB).unwrap();
-    assert_eq!((file.bytes(), status(file.as_fd()).unwrap().stx_size), (MIB, MIB));
-    assert_eq!(status(file.as_fd()).unwrap().stx_blocks, 0);
+    assert_eq!(
+        (file.bytes(), status(file.as_fd(), WANTED).unwrap().stx_size),
+        (MIB, MIB)
+    );
+    assert_eq!(status(file.as_fd(), libc::STATX_BLOCKS).unwrap().stx_blocks, 0);
     assert_eq!(file.identity(), Identity::of(file.as_fd()).unwrap());
     for length in [0, 4096, 2 * MIB as i64] {
         assert_eq!(ftruncate(file.as_fd(), length), Err(Errno::EPERM));

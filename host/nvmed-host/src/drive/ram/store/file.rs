@@ -4,11 +4,11 @@
 use std::fs::{File, OpenOptions};
 use std::io;
 use std::os::fd::{AsFd, AsRawFd, RawFd};
-use std::os::unix::fs::{MetadataExt, OpenOptionsExt};
+use std::os::unix::fs::{MetadataExt, OpenOptionsExt as _};
 use std::path::{Path, PathBuf};
 use std::sync::atomic::{AtomicBool, Ordering};
 
-use nix::fcntl::{fallocate, fcntl, FallocateFlags, FcntlArg, Flock, FlockArg};
+use nix::fcntl::{fallocate, FallocateFlags, Flock};
 use nix::sys::statfs::{fstatfs, TMPFS_MAGIC};
 use nix::sys::statvfs::fstatvfs;
 use nix::unistd::{lseek, Whence};
@@ -17,6 +17,7 @@ use vm_memory::VolatileSlice;
 use super::calls::{self, Way};
 use super::dirty::{Dirty, CHUNK};
 use super::{Store, Wait};
+use crate::drive::image::{lock, open_without_times};
 use crate::drive::DriveError;
 
 /// Chunks that a sync may hand to the device at once.
@@ -204,18 +205,9 @@ fn open_or_create(path: &Path) -> Result<(File, bool), DriveError> {
     let refused =
         |error: io::Error| DriveError::Unusable(format!("{}: cannot be opened or created: {error}", path.display()));
     let open = |new: bool| {
-        let open = |flags| {
-            let mut options = OpenOptions::new();
-            options.read(true).write(true).create_new(new).mode(0o600);
-            options
-                .custom_flags(libc::O_NONBLOCK | libc::O_NOCTTY | flags)
-                .open(path)
-        };
-        // A Read that notes its time in the file may wait for the file system's log. A file of another owner can't be opened without that.
-        match open(libc::O_NOATIME) {
-            Err(error) if error.raw_os_error() == Some(libc::EPERM) => open(0),
-            opened => opened,
-        }
+        let mut options = OpenOptions::new();
+        options.read(true).write(true).create_new(new).mode(0o600);
+        open_without_times(&mut options, path, 0)
     };
     match open(false) {
         Ok(file) => Ok((file, false)),
@@ -229,20 +221,6 @@ fn open_or_create(path: &Path) -> Result<(File, bool), DriveError> {
         },
         Err(error) => Err(refused(error)),
     }
-}
-
-/// Locks the file against others that lock it by `flock`, and by `fcntl` as QEMU does.
-fn lock(file: File) -> io::Result<Flock<File>> {
-    let file = Flock::lock(file, FlockArg::LockExclusiveNonblock).map_err(|(_, error)| io::Error::from(error))?;
-    let whole = libc::flock {
-        l_type: libc::F_WRLCK as libc::c_short,
-        l_whence: libc::SEEK_SET as libc::c_short,
-        l_start: 0,
-        l_len: 0,
-        l_pid: 0,
-    };
-    fcntl(file.as_raw_fd(), FcntlArg::F_OFD_SETLK(&whole))?;
-    Ok(file)
 }
 
 /// Makes a folder's entries durable, where its file system has such a thing.

@@ -66,7 +66,7 @@ fn lists_of_two_pages_are_followed() {
 }
 
 /// Writes blocks 700 to 955 with bytes that are not zero.
-fn filled() -> Rig {
+fn filled() -> RamRig {
     let mut rig = Rig::usual();
     rig.memory.fill(DATA, 0x20000, 0x77);
     for i in 0..31 {
@@ -77,7 +77,7 @@ fn filled() -> Rig {
     rig
 }
 
-fn is_zero(rig: &mut Rig, block: u64) -> bool {
+fn is_zero(rig: &mut RamRig, block: u64) -> bool {
     match rig.run(entry(COMPARE, DATA, 0, block, 0)) {
         0 => true,
         FAILED_COMPARE => false,
@@ -85,7 +85,7 @@ fn is_zero(rig: &mut Rig, block: u64) -> bool {
     }
 }
 
-fn zeros(rig: &mut Rig, from: u64, to: u64) -> Vec<u64> {
+fn zeros(rig: &mut RamRig, from: u64, to: u64) -> Vec<u64> {
     (from..to).filter(|block| is_zero(rig, *block)).collect()
 }
 
@@ -101,7 +101,7 @@ fn zeros_are_where_write_zeroes_says() {
     assert_eq!(zeros(&mut rig, 698, 960).len(), 262);
 }
 
-fn put_range(rig: &Rig, at: u64, first: u64, blocks: u32) {
+fn put_range(rig: &RamRig, at: u64, first: u64, blocks: u32) {
     rig.memory.put32(at, 0xffff_ffff);
     rig.memory.put32(at + 4, blocks);
     rig.memory.put64(at + 8, first);
@@ -149,7 +149,7 @@ fn dataset_management_deallocates_what_its_ranges_name() {
 
 #[test]
 fn overlapping_ranges_become_few() {
-    use super::super::command::{merged, Extent};
+    use crate::drive::command::{merged, Extent};
     let extents = |list: &[(u64, u64)]| {
         list.iter()
             .map(|(from, to)| Extent { from: *from, to: *to })
@@ -247,7 +247,7 @@ fn bad_entries_are_refused_and_move_nothing() {
     assert_eq!(zeros_of_whole_drive(&mut rig), BLOCKS as usize);
 }
 
-fn zeros_of_whole_drive(rig: &mut Rig) -> usize {
+fn zeros_of_whole_drive(rig: &mut RamRig) -> usize {
     rig.memory.fill(DATA, 512, 0);
     zeros(rig, 0, BLOCKS).len()
 }

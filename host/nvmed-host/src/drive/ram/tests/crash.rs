@@ -5,26 +5,6 @@ use super::*;
 
 const READ_MOST: u64 = 64;
 
-/// A generator of pseudo-random numbers (xorshift64*).
-pub struct Random(u64);
-
-impl Random {
-    pub fn new(seed: u64) -> Random {
-        Random(seed.wrapping_mul(0x9e37_79b9_7f4a_7c15) | 1)
-    }
-
-    pub fn next(&mut self) -> u64 {
-        self.0 ^= self.0 >> 12;
-        self.0 ^= self.0 << 25;
-        self.0 ^= self.0 >> 27;
-        self.0.wrapping_mul(0x2545_f491_4f6c_dd1d)
-    }
-
-    pub fn below(&mut self, end: u64) -> u64 {
-        self.next() % end
-    }
-}
-
 /// What a block may have after a crash: its versions, of which those before `floor` are gone for certain. A version is a number that fills the block.
 #[derive(Clone)]
 struct Block {
@@ -106,7 +86,7 @@ impl Model {
 }
 
 /// Puts a command, unless its blocks are busy.
-fn submit(rig: &mut Rig, model: &mut Model, random: &mut Random, version: u64) {
+fn submit(rig: &mut RamRig, model: &mut Model, random: &mut Random, version: u64) {
     let kind = random.below(8);
     if kind == 0 {
         let command = rig.put(&entry(0, 0, 0, 0, 0));

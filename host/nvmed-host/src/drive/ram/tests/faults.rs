@@ -12,7 +12,7 @@ const FLUSH: u8 = 0;
 /// Write Fault, do not retry: what a drive says that takes no more writes.
 const FOR_EVER: u16 = 0x4280;
 
-fn rigs() -> Vec<(Arc<FaultyStore>, Rig)> {
+fn rigs() -> Vec<(Arc<FaultyStore>, RamRig)> {
     let one = |waits| {
         let store = Arc::new(FaultyStore::new(waits, BLOCKS));
         (Arc::clone(&store), Rig::over(store, BLOCKS))
@@ -159,6 +159,19 @@ fn a_store_that_ends_too_early_takes_no_more_writes() {
         store.fail(Call::Read, Fault::CutOff);
         assert_eq!(rig.run(entry(READ, DATA, 0, 1, 0)), 0x281);
         assert_eq!(rig.run(entry(WRITE, DATA, 0, 1, 0)), FOR_EVER);
+    }
+}
+
+#[test]
+fn a_store_whose_device_is_gone_takes_no_more_writes() {
+    for error in [libc::ENODEV, libc::ENXIO, libc::ESHUTDOWN] {
+        for (store, mut rig) in rigs() {
+            store.fail(Call::Read, Fault::Error(error));
+            assert_eq!(rig.run(entry(READ, DATA, 0, 1, 0)), 0x4082);
+            assert_eq!(rig.run(entry(WRITE, DATA, 0, 1, 0)), FOR_EVER);
+            let said = rig.close().expect_err("writes were lost").to_string();
+            assert!(said.contains("the device is gone"), "{said}");
+        }
     }
 }
 

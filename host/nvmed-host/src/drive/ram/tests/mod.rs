@@ -8,254 +8,30 @@ mod image;
 mod rings;
 mod waits;
 
-use std::os::fd::AsFd;
-use std::sync::{Arc, Mutex};
+use std::sync::Arc;
 use std::time::{Duration, Instant};
 
-use nix::poll::{poll, PollFd, PollFlags, PollTimeout};
-use vm_memory::mmap::MmapRegion;
-use vm_memory::{Bytes, VolatileMemory, VolatileSlice};
+use vm_memory::VolatileSlice;
 
 use super::store::Store;
 use super::*;
+use crate::drive::testing::*;
 
-/// Where things are in the memory of these tests.
-pub const LOW: u64 = 0x10000;
-pub const SQ: u64 = 0x10000;
-pub const CQ: u64 = 0x12000;
-pub const DATA: u64 = 0x20000;
-pub const LIST: u64 = 0x60000;
-pub const HIGH: u64 = 0x98000;
-/// Entries of the first lane's rings, and the drive's blocks.
-pub const ENTRIES: u32 = 65;
-pub const BLOCKS: u64 = 1024;
-/// A budget that no test uses up.
-pub const AMPLE: Budget = Budget {
-    commands: 1000,
-    bytes: 1 << 40,
-};
+/// The usual drive behind the driver's side of a lane.
+pub type RamRig = Rig<RamDrive<Memory>>;
 
-/// Memory with pieces, as the window has them.
-pub struct Memory {
-    region: MmapRegion,
-    pieces: Mutex<Vec<(u64, u64)>>,
-}
-
-impl Memory {
-    /// Memory from host address 0 on, of which the pieces (address, bytes) are there.
-    pub fn new(bytes: usize, pieces: &[(u64, u64)]) -> Arc<Memory> {
-        let region = MmapRegion::new(bytes).expect("memory");
-        Arc::new(Memory {
-            region,
-            pieces: Mutex::new(pieces.to_vec()),
-        })
-    }
-
-    /// Two pieces: the first from 0x10000 to 0x90000, the second of two pages from 0x98000 on.
-    pub fn usual() -> Arc<Memory> {
-        let memory = Memory::new(1 << 20, &[(LOW, 0x80000), (HIGH, 0x2000)]);
-        memory.fill(0, 1 << 20, 0xee);
-        memory
-    }
-
-    /// From now on nothing has memory but these pieces.
-    pub fn keep(&self, pieces: &[(u64, u64)]) {
-        *self.pieces.lock().expect("lock") = pieces.to_vec();
-    }
-
-    fn all(&self, host: u64, len: usize) -> VolatileSlice<'_> {
-        self.region.get_slice(host as usize, len).expect("in the region")
-    }
-
-    pub fn fill(&self, host: u64, len: usize, byte: u8) {
-        self.put(host, &vec![byte; len]);
-    }
-
-    pub fn put(&self, host: u64, bytes: &[u8]) {
-        self.all(host, bytes.len()).copy_from(bytes);
-    }
-
-    pub fn put64(&self, host: u64, value: u64) {
-        self.put(host, &value.to_le_bytes());
-    }
-
-    pub fn put32(&self, host: u64, value: u32) {
-        self.put(host, &value.to_le_bytes());
-    }
-
-    pub fn get(&self, host: u64, len: usize) -> Vec<u8> {
-        let mut bytes = vec![0; len];
-        self.all(host, len).copy_to(&mut bytes);
-        bytes
-    }
-
-    pub fn get32(&self, host: u64) -> u32 {
-        self.all(host, 4).read_obj(0).expect("in the region")
-    }
-}
-
-impl SharedMemory for Memory {
-    fn slice(&self, host: u64, len: usize) -> Option<VolatileSlice<'_>> {
-        let end = host.checked_add(len as u64)?;
-        let pieces = self.pieces.lock().expect("lock");
-        let is_there = len > 0 && pieces.iter().any(|(from, bytes)| *from <= host && end <= from + bytes);
-        is_there.then(|| self.all(host, len))
-    }
-}
-
-/// A submission entry, by the fields that matter.
-#[derive(Clone, Copy, Debug, Default)]
-pub struct Entry {
-    pub opcode: u8,
-    pub flags: u8,
-    pub namespace: u32,
-    pub prp1: u64,
-    pub prp2: u64,
-    /// Dwords 10 and 11.
-    pub first: u64,
-    pub d12: u32,
-}
-
-/// The FUA bit of dword 12.
-pub const FORCED: u32 = 1 << 30;
-
-/// An entry for namespace 1.
-pub fn entry(opcode: u8, prp1: u64, prp2: u64, first: u64, d12: u32) -> Entry {
-    Entry {
-        opcode,
-        flags: 0,
-        namespace: 1,
-        prp1,
-        prp2,
-        first,
-        d12,
-    }
-}
-
-/// A drive with the driver's side of one lane.
-pub struct Rig {
-    pub memory: Arc<Memory>,
-    pub drive: Box<RamDrive<Memory>>,
-    pub lane: usize,
-    pub rings: LaneRings,
-    pub tail: u32,
-    pub head: u32,
-    pub phase: bool,
-    command: u16,
-}
-
-/// The usual rings.
-pub const RINGS: LaneRings = LaneRings {
-    submission: SQ,
-    completion: CQ,
-    entries: ENTRIES,
-};
-
-impl Rig {
-    pub fn new(memory: Arc<Memory>, drive: RamDrive<Memory>) -> Rig {
-        let mut drive = Box::new(drive);
-        drive.create_lanes(&[RINGS]).expect("lanes");
-        Rig {
-            memory,
-            drive,
-            lane: 0,
-            rings: RINGS,
-            tail: 0,
-            head: 0,
-            phase: true,
-            command: 0xfff0,
-        }
-    }
-
+impl RamRig {
     /// The usual drive in memory.
-    pub fn usual() -> Rig {
+    pub fn usual() -> Self {
         let memory = Memory::usual();
         let drive = RamDrive::in_memory(Arc::clone(&memory), BLOCKS).expect("a drive");
         Rig::new(memory, drive)
     }
 
     /// A drive over a store.
-    pub fn over(store: Arc<dyn Store>, blocks: u64) -> Rig {
+    pub fn over(store: Arc<dyn Store>, blocks: u64) -> Self {
         let memory = Memory::usual();
         let drive = RamDrive::over(Arc::clone(&memory), blocks, store).expect("a drive");
         Rig::new(memory, drive)
-    }
-
-    /// Puts an entry into the ring and returns its command identifier.
-    pub fn put(&mut self, entry: &Entry) -> u16 {
-        self.command = self.command.wrapping_add(1);
-        let mut bytes = [0; 64];
-        bytes[0] = entry.opcode;
-        bytes[1] = entry.flags;
-        bytes[2..4].copy_from_slice(&self.command.to_le_bytes());
-        bytes[4..8].copy_from_slice(&entry.namespace.to_le_bytes());
-        bytes[24..32].copy_from_slice(&entry.prp1.to_le_bytes());
-        bytes[32..40].copy_from_slice(&entry.prp2.to_le_bytes());
-        bytes[40..48].copy_from_slice(&entry.first.to_le_bytes());
-        bytes[48..52].copy_from_slice(&entry.d12.to_le_bytes());
-        self.memory
-            .put(self.rings.submission + 64 * u64::from(self.tail), &bytes);
-        self.tail = (self.tail + 1) % self.rings.entries;
-        self.command
-    }
-
-    /// Rings the submission doorbell for all entries that were put.
-    pub fn ring(&mut self) {
-        self.drive.ring_submission(self.lane, self.tail).expect("a doorbell");
-    }
-
-    /// The next completion, if it is there: command identifier and status field without the phase tag. Its place is given back.
-    pub fn reap(&mut self) -> Option<(u16, u16)> {
-        let at = self.rings.completion + 16 * u64::from(self.head);
-        let last = self.memory.get32(at + 12);
-        if (last >> 16 & 1 != 0) != self.phase {
-            return None;
-        }
-        assert_eq!(self.memory.get(at, 8), [0; 8]);
-        assert_eq!(self.memory.get32(at + 8) >> 16, self.lane as u32 + 1);
-        self.head = (self.head + 1) % self.rings.entries;
-        self.phase ^= self.head == 0;
-        self.drive.ring_completion(self.lane, self.head).expect("a doorbell");
-        Some((last as u16, (last >> 17) as u16))
-    }
-
-    /// Works until a completion is there.
-    pub fn wait(&mut self) -> (u16, u16) {
-        let deadline = Instant::now() + Duration::from_secs(20);
-        loop {
-            let more = self.drive.work(AMPLE).expect("work").more;
-            if let Some(seen) = self.reap() {
-                return seen;
-            }
-            assert!(Instant::now() < deadline, "no completion in 20 s");
-            if !more {
-                self.sleep();
-            }
-        }
-    }
-
-    /// Sleeps until the drive wakes its driver.
-    pub fn sleep(&mut self) {
-        let fd = self.drive.wake().expect("a descriptor");
-        poll(
-            &mut [PollFd::new(fd.as_fd(), PollFlags::POLLIN)],
-            PollTimeout::from(1000u16),
-        )
-        .expect("poll");
-        self.drive.woken();
-    }
-
-    /// Carries out one command and returns its status field without the phase tag.
-    pub fn run(&mut self, entry: Entry) -> u16 {
-        let command = self.put(&entry);
-        self.ring();
-        let (seen, status) = self.wait();
-        assert_eq!(seen, command);
-        status
-    }
-
-    pub fn close(self) -> Result<(), DriveError> {
-        let drive: Box<dyn Drive> = self.drive;
-        drive.close()
     }
 }

@@ -57,7 +57,7 @@ fn a_full_completion_ring_is_waited_for() {
     });
     rig.ring();
     assert_eq!(rig.drive.work(AMPLE).expect("work"), Progress::default());
-    let reap = |rig: &mut Rig, count| (0..count).filter_map(|_| rig.reap()).count();
+    let reap = |rig: &mut RamRig, count| (0..count).filter_map(|_| rig.reap()).count();
     assert_eq!(reap(&mut rig, 3), 3);
     assert_eq!(
         rig.drive.work(AMPLE).expect("work"),

@@ -10,7 +10,7 @@ const MOST: Duration = Duration::from_millis(100);
 const TRIES: usize = 5;
 
 /// Of the drive, in blocks: 256 MiB in memory, and 64 MiB in a file.
-fn rigs(folder: &image::Folder) -> Vec<(u64, Rig)> {
+fn rigs(folder: &Folder) -> Vec<(u64, RamRig)> {
     let memory = Memory::usual();
     let in_memory = RamDrive::in_memory(Arc::clone(&memory), 1 << 19).expect("a drive");
     let other = Memory::usual();
@@ -22,7 +22,7 @@ fn rigs(folder: &image::Folder) -> Vec<(u64, Rig)> {
 }
 
 /// Writes all of the drive, puts the commands, and reads one block after another until they are done. The longest wait of a Read.
-fn longest_wait(rig: &mut Rig, blocks: u64, others: &[Entry]) -> Duration {
+fn longest_wait(rig: &mut RamRig, blocks: u64, others: &[Entry]) -> Duration {
     for i in 0..31 {
         rig.memory.put64(LIST + 8 * i, DATA + 0x1000 * (i + 1));
     }
@@ -57,7 +57,7 @@ fn longest_wait(rig: &mut Rig, blocks: u64, others: &[Entry]) -> Duration {
 
 #[test]
 fn no_wait_is_long() {
-    let folder = image::Folder::new();
+    let folder = Folder::new();
     for (blocks, mut rig) in rigs(&folder) {
         for i in 0..256u64 {
             rig.memory.put32(0x8f000 + 16 * i + 4, (blocks - i) as u32);

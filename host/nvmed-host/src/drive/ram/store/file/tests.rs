@@ -72,7 +72,11 @@ fn a_way_that_there_is_not_is_asked_for_once() {
 fn zeros_that_are_refused_are_errors() {
     let store = store(BYTES);
     let fd = store.fd();
-    fcntl(fd, FcntlArg::F_ADD_SEALS(nix::fcntl::SealFlag::F_SEAL_WRITE)).expect("a seal");
+    nix::fcntl::fcntl(
+        fd,
+        nix::fcntl::FcntlArg::F_ADD_SEALS(nix::fcntl::SealFlag::F_SEAL_WRITE),
+    )
+    .expect("a seal");
     for has_holes in [true, false] {
         store.has_holes.store(has_holes, Ordering::Relaxed);
         let error = store.zero(0, 4096, true).expect_err("a sealed file");

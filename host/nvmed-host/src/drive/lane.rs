@@ -1,9 +1,9 @@
 #![forbid(unsafe_code)]
 //! A lane's rings, as the controller has them (NVM Express Base Specification, "Queue Pairs" and "Phase Tag").
 
-use crate::drive::entry::{Completion, Status, Submission, COMPLETION_BYTES, SUBMISSION_BYTES};
-use crate::drive::prp::{SharedMemory, PAGE_BYTES};
-use crate::drive::{DriveError, LaneRings};
+use super::entry::{Completion, Status, Submission, COMPLETION_BYTES, SUBMISSION_BYTES};
+use super::prp::{SharedMemory, PAGE_BYTES};
+use super::{DriveError, LaneRings};
 
 /// A submission ring and its completion ring.
 #[derive(Debug)]

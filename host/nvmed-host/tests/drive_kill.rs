@@ -1,4 +1,4 @@
-//! A process with a simulated drive in a file is killed at any moment: its image has what was flushed, and can be used again.
+//! A process with a drive in a file is killed at any moment: its image has what was flushed, and can be used again.
 
 #![allow(clippy::expect_used)]
 
@@ -9,11 +9,11 @@ use std::sync::Arc;
 use std::time::{Duration, Instant};
 
 use nix::poll::{poll, PollFd, PollFlags, PollTimeout};
-use nvmed_host::drive::prp::SharedMemory;
+use nvmed_host::drive::file::FileDrive;
 use nvmed_host::drive::ram::RamDrive;
-use nvmed_host::drive::{Budget, Drive, LaneRings};
-use vm_memory::mmap::MmapRegion;
-use vm_memory::{Bytes, VolatileMemory, VolatileSlice};
+use nvmed_host::drive::{Budget, Drive, DriveError, LaneRings};
+use nvmed_host::memory::Window;
+use vm_memory::{Bytes, VolatileSlice};
 
 const BLOCKS: u64 = 4096;
 const RINGS: LaneRings = LaneRings {
@@ -22,18 +22,36 @@ const RINGS: LaneRings = LaneRings {
     entries: 65,
 };
 const DATA: u64 = 0x10000;
+const BYTES: u64 = 1 << 20;
 const IMAGE: &str = "NVMED_TEST_KILLED_IMAGE";
+const KIND: &str = "NVMED_TEST_KILLED_KIND";
 
-struct Memory(MmapRegion);
+/// Kinds of drives in files.
+#[derive(Clone, Copy, Debug, PartialEq, Eq)]
+enum Kind {
+    /// `drive ram SIZE FILE`
+    Ram,
+    /// `drive file PATH`
+    File,
+}
 
-impl SharedMemory for Memory {
-    fn slice(&self, host: u64, len: usize) -> Option<VolatileSlice<'_>> {
-        self.0.get_slice(host as usize, len).ok()
+impl Kind {
+    fn open(self, memory: Arc<Window>, image: &Path) -> Result<Box<dyn Drive>, DriveError> {
+        Ok(match self {
+            Kind::Ram => Box::new(RamDrive::in_file(memory, BLOCKS, image)?),
+            Kind::File => Box::new(FileDrive::open(memory, image, BLOCKS)?),
+        })
     }
 }
 
+fn memory() -> Arc<Window> {
+    let memory = Window::reserve(BYTES).expect("addresses");
+    memory.map_zeros(0, BYTES).expect("memory");
+    memory
+}
+
 struct Driver {
-    memory: Arc<Memory>,
+    memory: Arc<Window>,
     drive: Box<dyn Drive>,
     tail: u32,
     head: u32,
@@ -41,10 +59,9 @@ struct Driver {
 }
 
 impl Driver {
-    fn open(image: &Path) -> Driver {
-        let memory = Arc::new(Memory(MmapRegion::new(1 << 20).expect("memory")));
-        let mut drive: Box<dyn Drive> =
-            Box::new(RamDrive::in_file(Arc::clone(&memory), BLOCKS, image).expect("a drive"));
+    fn open(kind: Kind, image: &Path) -> Driver {
+        let memory = memory();
+        let mut drive = kind.open(Arc::clone(&memory), image).expect("a drive");
         drive.create_lanes(&[RINGS]).expect("lanes");
         Driver {
             memory,
@@ -55,6 +72,11 @@ impl Driver {
         }
     }
 
+    /// All of the memory.
+    fn all(&self) -> VolatileSlice<'_> {
+        self.memory.slice(0, BYTES as usize).expect("memory")
+    }
+
     fn put(&mut self, opcode: u8, prp1: u64, first: u64, d12: u32) {
         let mut entry = [0; 64];
         entry[0] = opcode;
@@ -62,9 +84,7 @@ impl Driver {
         entry[24..32].copy_from_slice(&prp1.to_le_bytes());
         entry[40..48].copy_from_slice(&first.to_le_bytes());
         entry[48..52].copy_from_slice(&d12.to_le_bytes());
-        self.memory
-            .0
-            .as_volatile_slice()
+        self.all()
             .write_slice(&entry, self.tail as usize * 64)
             .expect("in memory");
         self.tail = (self.tail + 1) % RINGS.entries;
@@ -83,7 +103,7 @@ impl Driver {
                     .expect("work")
                     .more;
                 let at = RINGS.completion as usize + self.head as usize * 16 + 12;
-                let last: u32 = self.memory.0.as_volatile_slice().read_obj(at).expect("in memory");
+                let last: u32 = self.all().read_obj(at).expect("in memory");
                 if (last >> 16 & 1 != 0) == self.phase {
                     assert_eq!(last >> 17, 0, "a status");
                     break;
@@ -111,7 +131,8 @@ fn block_of(version: u64) -> u64 {
 #[ignore = "it is run by the other test, as a process of its own"]
 fn child() {
     let Some(image) = std::env::var_os(IMAGE) else { return };
-    let mut driver = Driver::open(Path::new(&image));
+    let is_ram = std::env::var_os(KIND).is_some_and(|kind| kind == "Ram");
+    let mut driver = Driver::open(if is_ram { Kind::Ram } else { Kind::File }, Path::new(&image));
     let mut said = std::io::stdout().lock();
     let mut version = 0u64;
     let mut durable = 0;
@@ -122,9 +143,7 @@ fn child() {
             version += 1;
             let page = DATA + 0x1000 * i;
             driver
-                .memory
-                .0
-                .as_volatile_slice()
+                .all()
                 .write_slice(&version.to_le_bytes().repeat(64), page as usize)
                 .expect("in memory");
             driver.put(1, page, block_of(version), if forced { 1 << 30 } else { 0 });
@@ -143,10 +162,11 @@ fn child() {
 }
 
 /// Reads lines for some time, kills the process, and reads the rest; the versions that are durable.
-fn killed_after(time: Duration, image: &Path) -> Vec<u64> {
+fn killed_after(time: Duration, kind: Kind, image: &Path) -> Vec<u64> {
     let mut child = Command::new(std::env::current_exe().expect("this program"))
         .args(["child", "--exact", "--ignored", "--nocapture"])
         .env(IMAGE, image)
+        .env(KIND, format!("{kind:?}"))
         .stdout(Stdio::piped())
         .spawn()
         .expect("a process");
@@ -184,14 +204,23 @@ impl Drop for Folder {
     }
 }
 
-#[test]
-fn what_was_flushed_survives_sigkill() {
-    let folder = Folder(std::env::temp_dir().join(format!("nvmed-kill-{}", std::process::id())));
+fn what_was_flushed_survives_sigkill(kind: Kind) {
+    let folder = Folder(std::env::temp_dir().join(format!("nvmed-kill-{kind:?}-{}", std::process::id())));
     std::fs::create_dir(&folder.0).expect("a folder");
     let begin = Instant::now();
     for round in 0..6u64 {
         let image = folder.0.join(format!("image{round}"));
-        let durable = killed_after(Duration::from_millis(60 + 47 * round), &image);
+        if kind == Kind::File {
+            let file = std::fs::File::create(&image).expect("a file");
+            file.set_len(BLOCKS * 512).expect("a length");
+            if let Err(error) = kind.open(memory(), &image) {
+                let said = error.to_string();
+                assert!(said.contains("direct I/O") || said.contains("io_uring"), "{said}");
+                println!("left out: {said}");
+                return;
+            }
+        }
+        let durable = killed_after(Duration::from_millis(60 + 47 * round), kind, &image);
         if !image.exists() {
             assert!(durable.is_empty());
             continue;
@@ -200,18 +229,13 @@ fn what_was_flushed_survives_sigkill() {
         for version in &durable {
             floor[block_of(*version) as usize] = *version;
         }
-        let mut driver = Driver::open(&image);
+        let mut driver = Driver::open(kind, &image);
         for block in 0..BLOCKS {
             driver.put(2, DATA, block, 0);
             driver.wait(1);
             let mut words = [0u64; 64];
             for (i, word) in words.iter_mut().enumerate() {
-                *word = driver
-                    .memory
-                    .0
-                    .as_volatile_slice()
-                    .read_obj(DATA as usize + 8 * i)
-                    .expect("in memory");
+                *word = driver.all().read_obj(DATA as usize + 8 * i).expect("in memory");
             }
             for word in words {
                 let floor = floor[block as usize];
@@ -225,4 +249,14 @@ fn what_was_flushed_survives_sigkill() {
         println!("round {round}: {} versions were durable", durable.len());
     }
     assert!(begin.elapsed() < Duration::from_secs(120));
+}
+
+#[test]
+fn what_was_flushed_survives_sigkill_on_a_simulated_drive() {
+    what_was_flushed_survives_sigkill(Kind::Ram);
+}
+
+#[test]
+fn what_was_flushed_survives_sigkill_in_a_file() {
+    what_was_flushed_survives_sigkill(Kind::File);
 }

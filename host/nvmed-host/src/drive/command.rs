@@ -4,10 +4,8 @@
 
 use vm_memory::VolatileSlice;
 
-use crate::drive::entry::{
-    opcode, Status, Submission, ALL_NAMESPACES, BLOCK_BYTES, MOST_BLOCKS, NAMESPACE, RANGE_BYTES,
-};
-use crate::drive::prp::{Places, PrpError, SharedMemory};
+use super::entry::{opcode, Status, Submission, ALL_NAMESPACES, BLOCK_BYTES, MOST_BLOCKS, NAMESPACE, RANGE_BYTES};
+use super::prp::{Places, PrpError, SharedMemory};
 
 /// Which way a transfer goes.
 #[derive(Clone, Copy, Debug, PartialEq, Eq)]
@@ -60,6 +58,19 @@ pub struct Clearing {
     pub forced: bool,
     /// Whether the blocks' room is given back: the command deallocates.
     pub gives_back: bool,
+}
+
+impl Clearing {
+    /// Takes the next bytes away, which are zero now: `bytes` of the last extent at most. Whether nothing is left.
+    pub fn advance(&mut self, bytes: u64) -> bool {
+        if let Some(extent) = self.left.last_mut() {
+            extent.from += bytes.min(extent.to - extent.from);
+            if extent.from == extent.to {
+                self.left.pop();
+            }
+        }
+        self.left.is_empty()
+    }
 }
 
 /// What is to be done.
