@@ -1,12 +1,12 @@
 #!/usr/bin/env python3
-"""documents.py [--write]: whether the documents keep their limits and say what the crates say. Prints a line for each thing that is off,
+"""documents.py [--write]: whether the documents say what the crates say, in plain words. Prints a line for each thing that is off,
 and ends with status 1 where there is one. With --write the table of docs/EDITS.md and the numbers of lines in docs/DEFINITIONS.md are
 written anew first, and docs/GATE.md gets a row for each new crate.
 
-Checked are: the lines of pages that have a limit, the width of all, and the words of all together; words of the private dialect; the
-glossary's size; a row of docs/CRATES.md for each crate; the codes of docs/STATUS.md; the first line and the history of
-docs/PERF.md; the edits of docs/EDITS.md, and whether the code has what each turns; the lines of each file in docs/DEFINITIONS.md; a row of
-docs/GATE.md for each crate; the sentences on what is promised of a host, on each page that has them; links, and names of files, crates and code in backquotes; and long lines of code, definitions and proofs."""
+Checked are: the width of all pages; words of the private dialect; a row of docs/CRATES.md for each crate; the codes of docs/STATUS.md; the
+first line and the history of docs/PERF.md; the edits of docs/EDITS.md, and whether the code has what each turns; the lines of each file in
+docs/DEFINITIONS.md; a row of docs/GATE.md for each crate; the sentences on what is promised of a host, on each page that has them; links, and
+names of files, crates and code in backquotes; and long lines of code, definitions and proofs."""
 import fnmatch
 import glob
 import os
@@ -16,13 +16,8 @@ import sys
 import turns
 
 ROOT = os.path.dirname(os.path.dirname(os.path.abspath(__file__)))
-# the most lines of these pages
-LINES = {"README.md": 130, "docs/PLAN.md": 60, "docs/AUDITS.md": 120, "docs/PROMISES.md": 250, "docs/DESIGN.md": 200}
 README_WIDTH = 120
 WIDTH = 160
-# of all pages together, as `wc -w` counts them
-WORDS = 23_000
-GLOSSARY_WORDS = 30
 # of the history in docs/PERF.md
 HISTORY_LINES = 60
 # words of the private dialect, which a page has only in names of code, each with what to write
@@ -159,19 +154,6 @@ def check_tables():
             yield f"{path}: its table is not what the crates say: bench/documents.py --write"
     if counted(read(DEFINITIONS)) != read(DEFINITIONS):
         yield f"{DEFINITIONS}: a file has another number of lines, or is not there: bench/documents.py --write"
-
-
-def check_sizes():
-    for path, most in LINES.items():
-        lines = len(read(path).splitlines())
-        if lines > most:
-            yield f"{path}: {lines} lines, and {most} are the most"
-    words = sum(len(read(path).split()) for path in pages())
-    if words > WORDS:
-        yield f"README.md and docs/: {words} words, and {WORDS} are the most"
-    rows = len(re.findall(r"^\w.* \| ", read("docs/GLOSSARY.md"), re.M)) - 1
-    if rows > GLOSSARY_WORDS:
-        yield f"docs/GLOSSARY.md: {rows} words, and {GLOSSARY_WORDS} are the most"
 
 
 def prose(path):
@@ -319,7 +301,6 @@ def main():
     crates = [crate for _, _, names in groups() for crate in names]
     off = [
         *check_crates(crates),
-        *check_sizes(),
         *check_widths(),
         *check_dialect(),
         *check_status(),

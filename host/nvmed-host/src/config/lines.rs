@@ -156,6 +156,11 @@ const VERSIONS: [(&[u8], u32); 7] = [
     (b"2.0", 0x2_0000),
 ];
 
+/// The first words of all kinds of lines.
+pub(super) fn kinds() -> impl Iterator<Item = &'static str> {
+    KINDS.iter().map(|kind| kind.name)
+}
+
 impl Draft {
     /// Takes a line's words. An empty line says nothing.
     pub(super) fn take(&mut self, line: u32, words: &[Vec<u8>]) -> Outcome {

@@ -220,6 +220,11 @@ pub struct Config {
     pub guests: Vec<GuestConfig>,
 }
 
+/// The first word of each kind of line that a configuration may have.
+pub fn kinds() -> impl Iterator<Item = &'static str> {
+    lines::kinds()
+}
+
 impl Config {
     /// Reads a configuration from its bytes.
     ///

@@ -1,0 +1,17 @@
+# Completion of nvmed-host(1) for bash.
+_nvmed_host() {
+    local now=${COMP_WORDS[COMP_CWORD]} before=${COMP_WORDS[COMP_CWORD - 1]}
+    COMPREPLY=()
+    if [[ $now == -* ]]; then
+        mapfile -t COMPREPLY < <(compgen -W '--statistics --version --help' -- "$now")
+        return
+    fi
+    if ((COMP_CWORD == 1)); then
+        mapfile -t COMPREPLY < <(compgen -W 'check help' -- "$now")
+    elif [[ $before == help ]]; then
+        return
+    fi
+    compopt -o filenames
+    mapfile -t -O "${#COMPREPLY[@]}" COMPREPLY < <(compgen -f -- "$now")
+}
+complete -F _nvmed_host nvmed-host
