@@ -1,0 +1,4 @@
+pub mod Fetches
+pub mod Within
+pub mod Traces
+pub mod Reaches

@@ -1,0 +1,5 @@
+pub mod Drive
+pub mod Fine
+pub mod Turns
+pub mod Reach
+pub mod Rows
