@@ -35,7 +35,7 @@ use crate::mediation::side::Library;
 use crate::mediation::wake::Bell;
 use crate::mediation::{self, Counts, End, Mediation, Post, Stop};
 use crate::memory::{FileError, GuestFile, GuestMemory, MemoryError, Trust, Window};
-use crate::process::{Listener, ProcessError, STOP_WAIT};
+use crate::process::{user_of, Listener, ProcessError, STOP_WAIT};
 use crate::signals::Signals;
 use crate::statistics::{Owners, Statistics, ENTRY_BYTES};
 
@@ -479,8 +479,10 @@ fn listen(config: &Config) -> Result<Vec<Source>, HostError> {
                 machine: is.machine,
             }),
             Connection::Listen(path) => {
-                let line = is.lines.connection;
-                let listener = Listener::bind(path).map_err(|error| HostError::Process { guest, line, error })?;
+                let of_line = |line| move |error| HostError::Process { guest, line, error };
+                let user = is.user.as_deref().map(user_of).transpose();
+                let user = user.map_err(of_line(is.lines.user))?;
+                let listener = Listener::bind(path, user).map_err(of_line(is.lines.connection))?;
                 Ok(Source::Listen(listener))
             }
         })

@@ -43,6 +43,7 @@ The configuration has plain lines; '#' begins a comment, and a word in quotes ma
   interrupts G messages|pin   how it is interrupted (messages)
   listen G PATH               its machine connects to this socket by vfio-user, or
   start G WORD..              its QEMU is started with these words; more such lines add words
+  user G NAME                 the user whose processes may connect to the socket of listen (the program's own)
 
 With --statistics a line a second says what the drive was given: of each guest its reads and writes, and their bytes.
 Status: 0 where all guests ended or a signal ended it, 1 where it could not begin, 2 for wrong words, 3 where the drive failed.";

@@ -23,8 +23,9 @@ use std::time::{Duration, Instant};
 
 use nix::fcntl::OFlag;
 use nix::sys::signal::{kill, Signal};
+use nix::sys::socket::{getsockopt, sockopt::PeerCredentials};
 use nix::sys::stat::Mode;
-use nix::unistd::Pid;
+use nix::unistd::{Pid, Uid, User};
 
 use crate::machine::Machine;
 use crate::memory::GuestFile;
@@ -55,6 +56,9 @@ pub enum ProcessError {
         /// What the kernel said.
         error: io::Error,
     },
+    /// No user has this name or number.
+    #[error("there is no user {0}")]
+    NoUser(String),
     /// No private folder for a socket can be made.
     #[error("{}: no folder for a socket can be made there: {error}", path.display())]
     Folder {
@@ -132,16 +136,34 @@ pub struct Listener {
     socket: UnixListener,
     path: PathBuf,
     folder: Option<PrivateFolder>,
+    /// Whose processes may connect. `None`: whose may is said by the file's mode and by its folder.
+    user: Option<Uid>,
+}
+
+/// The user of this name, or of this number in decimal digits.
+///
+/// Errors: [`ProcessError::NoUser`], also where the system's users cannot be read.
+pub fn user_of(name: &str) -> Result<Uid, ProcessError> {
+    let number = name
+        .parse()
+        .ok()
+        .filter(|number| *number != u32::MAX)
+        .map(Uid::from_raw);
+    let named = || User::from_name(name).ok().flatten().map(|user| user.uid);
+    number
+        .or_else(named)
+        .ok_or_else(|| ProcessError::NoUser(name.to_owned()))
 }
 
 impl Listener {
-    /// Listens at a path, which is made for this user alone. A socket that is there and on which nobody listens is replaced; anything else there is left
+    /// Listens at a path, which is made for this user alone. Where another user is named, anybody may reach the socket, and each process that connects is
+    /// asked whose it is: those of others are refused, also this user's own. A socket that is there and on which nobody listens is replaced; anything else there is left
     /// as it is, and refused.
     ///
     /// Errors: [`ProcessError::InUse`], [`ProcessError::NoSocket`], [`ProcessError::Listen`].
-    pub fn bind(path: &Path) -> Result<Self, ProcessError> {
+    pub fn bind(path: &Path, user: Option<Uid>) -> Result<Self, ProcessError> {
         clear(path)?;
-        Self::at(path.into(), None).map_err(|error| ProcessError::Listen {
+        Self::at(path.into(), None, user).map_err(|error| ProcessError::Listen {
             path: path.into(),
             error,
         })
@@ -153,28 +175,46 @@ impl Listener {
         // a socket's path may have 107 bytes: that of the folder may be longer
         let path = PathBuf::from(path_of(folder.descriptor.as_raw_fd(), "/socket"));
         let parent = folder.path.clone();
-        Self::at(path, Some(folder)).map_err(|error| ProcessError::Listen { path: parent, error })
+        Self::at(path, Some(folder), None).map_err(|error| ProcessError::Listen { path: parent, error })
     }
 
-    fn at(path: PathBuf, folder: Option<PrivateFolder>) -> io::Result<Self> {
+    fn at(path: PathBuf, folder: Option<PrivateFolder>, user: Option<Uid>) -> io::Result<Self> {
         let socket = UnixListener::bind(&path)?;
-        let listener = Self { socket, path, folder };
-        fs::set_permissions(&listener.path, fs::Permissions::from_mode(0o600))?;
+        let mode = if user.is_some() { 0o666 } else { 0o600 };
+        let listener = Self {
+            socket,
+            path,
+            folder,
+            user,
+        };
+        fs::set_permissions(&listener.path, fs::Permissions::from_mode(mode))?;
         listener.socket.set_nonblocking(true)?;
         Ok(listener)
     }
 
     /// Takes a connection, if one waits. It does not wait.
     ///
-    /// Errors: those of `accept`, such as too many open files; the socket listens on.
+    /// Errors: those of `accept`, such as too many open files; `PermissionDenied` where the process that connected is of a user that is not the named one.
+    /// The socket listens on.
     pub fn accept(&self) -> io::Result<Option<OwnedFd>> {
         match self.socket.accept() {
-            Ok((socket, _)) => Ok(Some(socket.into())),
+            Ok((socket, _)) => self.admit(&socket).map(|()| Some(socket.into())),
             Err(e) => match e.kind() {
                 io::ErrorKind::WouldBlock | io::ErrorKind::Interrupted | io::ErrorKind::ConnectionAborted => Ok(None),
                 _ => Err(e),
             },
         }
+    }
+
+    /// Whether the process that connected is the named user's. The kernel has kept whose it was then.
+    fn admit(&self, socket: &UnixStream) -> io::Result<()> {
+        let Some(user) = self.user else { return Ok(()) };
+        let peer = getsockopt(socket, PeerCredentials)?.uid();
+        if peer == user.as_raw() {
+            return Ok(());
+        }
+        let what = format!("it is of user {peer}, and user {user} is the one that may connect");
+        Err(io::Error::new(io::ErrorKind::PermissionDenied, what))
     }
 
     /// The socket's path.

@@ -36,6 +36,7 @@ fn words_and_statuses() {
         "interrupts G",
         "listen G PATH",
         "start G WORD..",
+        "user G NAME",
     ] {
         assert!(said.contains(line), "{line}");
     }
@@ -142,6 +143,38 @@ fn it_ends_with_the_guests_that_it_started() {
     assert_eq!(program.status(), 1);
     let said = program.said();
     assert!(said.contains("line 4") && said.contains("/no/such/program"), "{said}");
+}
+
+/// Where a user is named, the processes of others are refused, and the socket goes on.
+#[test]
+fn a_client_of_another_user_is_refused() {
+    let folder = Folder::new("user");
+    let own = nix::unistd::Uid::effective().as_raw();
+    let text = configuration(&folder, 2, &format!("user 0 {}\nuser 1 {own}\n", own + 1));
+    let mut program = Program::start(&folder, &text, &[]);
+    drop(connect(&folder, "g1"));
+    for _ in 0..3 {
+        let refused = Client::connect(&folder.path("g0"));
+        assert!(refused.is_err(), "it is taken");
+    }
+    program.signal(Signal::SIGTERM);
+    assert_eq!(program.status(), 0);
+    let said = program.said();
+    assert!(
+        said.contains(&format!("guest 0: a connection is refused: it is of user {own}")),
+        "{said}"
+    );
+}
+
+#[test]
+fn a_user_that_is_not_there_is_refused() {
+    let folder = Folder::new("no-user");
+    let path = folder.path("file");
+    std::fs::write(&path, configuration(&folder, 1, "user 0 no-such-user\n")).unwrap();
+    let (status, _, said) = run(&[path.to_str().unwrap()]);
+    assert_eq!(status, 1);
+    assert!(said.contains("there is no user no-such-user"), "{said}");
+    assert!(!folder.path("g0").exists());
 }
 
 /// What the mediator refuses leaves no image behind, nor a crash.

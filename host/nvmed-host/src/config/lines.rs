@@ -9,8 +9,8 @@ use std::time::Duration;
 use super::words::{number, shown, size, small};
 use super::{
     Doorbells, DriveConfig, ExtentConfig, Interrupts, MOST_DRIVE_BLOCKS, MOST_EXTENTS, MOST_EXTENTS_IN_ALL,
-    MOST_GUESTS, MOST_GUEST_BLOCKS, MOST_LANES, MOST_MEMORY, MOST_PATH, MOST_SOCKET, MOST_WORDS, MOST_WORDS_OF_START,
-    TAGS,
+    MOST_GUESTS, MOST_GUEST_BLOCKS, MOST_LANES, MOST_MEMORY, MOST_PATH, MOST_SOCKET, MOST_USER, MOST_WORDS,
+    MOST_WORDS_OF_START, TAGS,
 };
 use crate::machine::Machine;
 
@@ -47,6 +47,7 @@ pub(super) struct GuestDraft {
     pub doorbells: Option<Said<Doorbells>>,
     pub interrupts: Option<Interrupts>,
     pub listen: Option<Said<PathBuf>>,
+    pub user: Option<Said<String>>,
     pub start: Option<Said<Vec<OsString>>>,
 }
 
@@ -58,7 +59,7 @@ struct Kind {
     act: fn(&mut Draft, u32, &[Vec<u8>]) -> Outcome,
 }
 
-const KINDS: [Kind; 14] = [
+const KINDS: [Kind; 15] = [
     Kind {
         name: "guest",
         least: 4,
@@ -118,6 +119,12 @@ const KINDS: [Kind; 14] = [
         least: 3,
         most: 3,
         act: Draft::on_listen,
+    },
+    Kind {
+        name: "user",
+        least: 3,
+        most: 3,
+        act: Draft::on_user,
     },
     Kind {
         name: "start",
@@ -216,6 +223,7 @@ impl Draft {
             doorbells: None,
             interrupts: None,
             listen: None,
+            user: None,
             start: None,
         });
         Ok(())
@@ -343,6 +351,18 @@ impl Draft {
         Ok(())
     }
 
+    /// `user G NAME`
+    fn on_user(&mut self, line: u32, words: &[Vec<u8>]) -> Outcome {
+        let guest = self.guest_of(words)?;
+        once(&guest.user, "the user of the guest's client stands")?;
+        let Some(name) = user_name(word(words, 2)) else {
+            return Err(format!("the user has no name of 1 to {MOST_USER} bytes in UTF-8"));
+        };
+        let value = name.to_owned();
+        guest.user = Some(Said { value, line });
+        Ok(())
+    }
+
     /// `start G WORD..`: more of these lines add words.
     fn on_start(&mut self, line: u32, words: &[Vec<u8>]) -> Outcome {
         let guest = self.guest_of(words)?;
@@ -453,6 +473,11 @@ impl Draft {
 
 fn word(words: &[Vec<u8>], at: usize) -> &[u8] {
     words.get(at).map(Vec::as_slice).unwrap_or_default()
+}
+
+fn user_name(word: &[u8]) -> Option<&str> {
+    let name = std::str::from_utf8(word).ok()?;
+    (1..=MOST_USER).contains(&name.len()).then_some(name)
 }
 
 fn guest_number(words: &[Vec<u8>]) -> Result<usize, String> {

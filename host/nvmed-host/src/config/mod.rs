@@ -39,6 +39,8 @@ pub const MOST_WORDS: usize = 256;
 pub const MOST_BYTES: usize = 262_144;
 /// The most bytes of a socket's path (`sun_path`, without its NUL).
 pub const MOST_SOCKET: usize = 107;
+/// The most bytes of a user's name.
+pub const MOST_USER: usize = 255;
 /// The most bytes of a file's path.
 pub const MOST_PATH: usize = 1023;
 /// Blocks of 512 bytes that a drive can have.
@@ -188,6 +190,8 @@ pub struct GuestConfig {
     pub interrupts: Interrupts,
     /// Where its client comes from.
     pub connection: Connection,
+    /// The user whose processes may be its client, a name or a number: `user G NAME`. Without one the socket is for this program's own user.
+    pub user: Option<String>,
     /// Where its lines were written.
     pub lines: GuestLines,
 }
@@ -201,6 +205,8 @@ pub struct GuestLines {
     pub share: u32,
     /// `listen`, or the first `start`.
     pub connection: u32,
+    /// `user`; where there is none that of the connection.
+    pub user: u32,
 }
 
 impl GuestConfig {

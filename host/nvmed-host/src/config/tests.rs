@@ -100,7 +100,8 @@ fn all_kinds_of_lines() {
         GuestLines {
             guest: 5,
             share: 8,
-            connection: 11
+            connection: 11,
+            user: 11
         }
     );
     assert_eq!((second.memory, second.share, second.file.as_ref()), (8192, None, None));
@@ -120,7 +121,8 @@ fn all_kinds_of_lines() {
         GuestLines {
             guest: 16,
             share: 16,
-            connection: 18
+            connection: 18,
+            user: 18
         }
     );
     assert_eq!(c.blocks(), 0x520);
@@ -785,4 +787,25 @@ fn a_file_in_pieces() {
     });
     assert_eq!(Config::read(Path::new(&path)).unwrap(), good(GOOD));
     writer.join().unwrap();
+}
+
+#[test]
+fn users_of_clients() {
+    let c = good("drive ram 1M\nguest 0 memory 4096\nextent 0 0 8\nlisten 0 a\nguest 1 memory 4096\nextent 1 8 8\nuser 1 \"x y\"\nlisten 1 b\n");
+    assert_eq!((c.guests[0].user.as_deref(), c.guests[0].lines.user), (None, 4));
+    assert_eq!((c.guests[1].user.as_deref(), c.guests[1].lines.user), (Some("x y"), 7));
+    let unnamed = "line 2: the user has no name of 1 to 255 bytes in UTF-8";
+    refused_of_guest("user 0 \"\"", unnamed);
+    refused_of_guest(&format!("user 0 {}", "u".repeat(256)), unnamed);
+    let longest = format!("{G0}user 0 {}\nuser 0 x\n", "u".repeat(255));
+    refused(
+        &longest,
+        "line 3: the user of the guest's client stands in a former line already",
+    );
+    let bytes = [G0.as_bytes(), &b"user 0 \xff\n"[..]].concat();
+    assert_eq!(Config::parse(&bytes).unwrap_err().to_string(), unnamed);
+    refused(
+        "drive ram 1M\nguest 0 memory 8192\nextent 0 0 8\nuser 0 x\nstart 0 q\n",
+        "line 4: guest 0 is started here, as this program's user, and has no line 'user'",
+    );
 }

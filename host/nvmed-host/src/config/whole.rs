@@ -57,6 +57,10 @@ fn finish_guest(number: usize, guest: GuestDraft, drive: &DriveConfig) -> Result
         (None, Some(start)) => (Connection::Start(start.value), start.line),
         _ => return fault(format!("guest {number} has no line 'listen' or 'start'")),
     };
+    if let (Connection::Start(_), Some(user)) = (&connection, &guest.user) {
+        let what = format!("guest {number} is started here, as this program's user, and has no line 'user'");
+        return Err((user.line, what));
+    }
     if matches!(
         (drive, &connection, &guest.file),
         (DriveConfig::Vfio { .. }, Connection::Listen(_), None)
@@ -90,8 +94,10 @@ fn finish_guest(number: usize, guest: GuestDraft, drive: &DriveConfig) -> Result
             guest: guest.line,
             share: guest.share.map_or(guest.line, |share| share.line),
             connection: line,
+            user: guest.user.as_ref().map_or(line, |user| user.line),
         },
         connection,
+        user: guest.user.map(|user| user.value),
     })
 }
 

@@ -9,6 +9,7 @@ pub mod function;
 pub mod said;
 
 use std::ffi::OsString;
+use std::io::ErrorKind;
 use std::os::fd::{AsFd, BorrowedFd, OwnedFd};
 use std::sync::mpsc::Sender as Reporter;
 use std::sync::Arc;
@@ -258,6 +259,11 @@ impl Guest {
                 Ok(Some(socket)) => Some(socket),
                 Ok(None) => {
                     wait(&[listener.as_fd(), self.outbox.fd()], most).map_err(Lost::Wait)?;
+                    None
+                }
+                // there is nothing to wait for: this one is gone
+                Err(error) if error.kind() == ErrorKind::PermissionDenied => {
+                    self.lines.warn(format_args!("a connection is refused: {error}"));
                     None
                 }
                 // such as too many open files: it is tried again later; until then the socket stays readable, so it is not looked at

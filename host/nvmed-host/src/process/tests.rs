@@ -58,13 +58,13 @@ fn accept(listener: &Listener) -> UnixStream {
 fn a_socket_that_listens() {
     let folder = Folder::new("listens");
     let path = folder.path("s");
-    let listener = Listener::bind(&path).unwrap();
+    let listener = Listener::bind(&path, None).unwrap();
     let about = fs::symlink_metadata(&path).unwrap();
     assert!(about.file_type().is_socket() && about.mode() & 0o777 == 0o600);
     assert_eq!(listener.path(), path);
     assert!(listener.accept().unwrap().is_none());
     for _ in 0..3 {
-        let e = Listener::bind(&path).unwrap_err().to_string();
+        let e = Listener::bind(&path, None).unwrap_err().to_string();
         assert_eq!(e, format!("{}: another process listens there", path.display()));
     }
     while listener.accept().unwrap().is_some() {}
@@ -78,6 +78,43 @@ fn a_socket_that_listens() {
     assert!(!path.exists());
 }
 
+/// The kernel says whose process a client is.
+#[test]
+fn a_socket_for_a_user() {
+    let folder = Folder::new("user");
+    let path = folder.path("s");
+    let own = Uid::effective();
+    let listener = Listener::bind(&path, Some(own)).unwrap();
+    assert_eq!(fs::symlink_metadata(&path).unwrap().mode() & 0o777, 0o666);
+    let mut client = UnixStream::connect(&path).unwrap();
+    let mut taken = accept(&listener);
+    client.write_all(b"x").unwrap();
+    assert_eq!(taken.read(&mut [0]).unwrap(), 1);
+    drop(listener);
+
+    let other = Uid::from_raw(own.as_raw() + 1);
+    let listener = Listener::bind(&path, Some(other)).unwrap();
+    let mut client = UnixStream::connect(&path).unwrap();
+    let e = wait_for(|| listener.accept().map_or_else(Some, |_| None));
+    assert_eq!(e.kind(), io::ErrorKind::PermissionDenied);
+    assert_eq!(
+        e.to_string(),
+        format!("it is of user {own}, and user {other} is the one that may connect")
+    );
+    assert_eq!(client.read(&mut [0]).unwrap(), 0, "the connection is closed");
+}
+
+#[test]
+fn names_and_numbers_of_users() {
+    assert_eq!(user_of("root").unwrap(), Uid::from_raw(0));
+    assert_eq!(user_of("0").unwrap(), Uid::from_raw(0));
+    assert_eq!(user_of("4294967294").unwrap(), Uid::from_raw(u32::MAX - 1));
+    for none in ["no-such-user", "", "-1", "4294967295", "4294967296", "a\0b"] {
+        let e = user_of(none).unwrap_err().to_string();
+        assert_eq!(e, format!("there is no user {none}"));
+    }
+}
+
 /// What a program leaves that did not end well is replaced.
 #[test]
 fn a_socket_that_was_left() {
@@ -86,7 +123,7 @@ fn a_socket_that_was_left() {
     drop(UnixListener::bind(&path).unwrap());
     assert!(path.exists());
     // a process that another test is just starting has the socket until its program begins
-    let listener = wait_for(|| Listener::bind(&path).ok());
+    let listener = wait_for(|| Listener::bind(&path, None).ok());
     UnixStream::connect(&path).unwrap();
     assert!(listener.accept().unwrap().is_some());
 }
@@ -97,7 +134,7 @@ fn paths_that_are_refused() {
     let folder = Folder::new("refused");
     let path = folder.path("s");
     let no_socket = |path: &Path| {
-        let e = Listener::bind(path).unwrap_err().to_string();
+        let e = Listener::bind(path, None).unwrap_err().to_string();
         assert_eq!(e, format!("{}: is there, and no socket", path.display()));
         assert!(fs::symlink_metadata(path).is_ok());
     };
@@ -109,7 +146,7 @@ fn paths_that_are_refused() {
     no_socket(&folder.0);
     no_socket(Path::new("/dev/null"));
     let fails = |path: &Path, words: &str| {
-        let e = Listener::bind(path).unwrap_err().to_string();
+        let e = Listener::bind(path, None).unwrap_err().to_string();
         assert!(e.contains(": cannot be listened on: ") && e.contains(words), "{e}");
     };
     fails(&folder.path("none/s"), "No such file or directory");
