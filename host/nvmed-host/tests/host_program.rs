@@ -154,8 +154,8 @@ fn a_client_of_another_user_is_refused() {
     let mut program = Program::start(&folder, &text, &[]);
     drop(connect(&folder, "g1"));
     for _ in 0..3 {
-        let refused = Client::connect(&folder.path("g0"));
-        assert!(refused.is_err(), "it is taken");
+        let answer = Client::connect(&folder.path("g0")).and_then(|mut client| client.version());
+        assert!(answer.is_err(), "it is taken: {answer:?}");
     }
     program.signal(Signal::SIGTERM);
     assert_eq!(program.status(), 0);
