@@ -157,8 +157,8 @@ pub fn user_of(name: &str) -> Result<Uid, ProcessError> {
 
 impl Listener {
     /// Listens at a path, which is made for this user alone. Where another user is named, anybody may reach the socket, and each process that connects is
-    /// asked whose it is: those of others are refused, also this user's own. A socket that is there and on which nobody listens is replaced; anything else there is left
-    /// as it is, and refused.
+    /// asked whose it is: those of others are refused, also this user's own. A socket that is there and on which nobody listens is replaced; anything else
+    /// there is left as it is, and refused.
     ///
     /// Errors: [`ProcessError::InUse`], [`ProcessError::NoSocket`], [`ProcessError::Listen`].
     pub fn bind(path: &Path, user: Option<Uid>) -> Result<Self, ProcessError> {
