@@ -5,12 +5,13 @@ written anew first, and docs/GATE.md gets a row for each new crate.
 
 Checked are: the width of all pages; words of the private dialect; a row of docs/CRATES.md for each crate; the codes of docs/STATUS.md; the
 first line and the history of docs/PERF.md; the edits of docs/EDITS.md, and whether the code has what each turns; the lines of each file in
-docs/DEFINITIONS.md; a row of docs/GATE.md for each crate; the sentences on what is promised of a host, on each page that has them; links, and
+docs/DEFINITIONS.md; a row of docs/GATE.md for each crate; the sentences on what is promised of a host, on each page that has them; the picture of the parts; links, and
 names of files, crates and code in backquotes; and long lines of code, definitions and proofs."""
 import fnmatch
 import glob
 import os
 import re
+import subprocess
 import sys
 
 import turns
@@ -61,7 +62,7 @@ def read(path):
 
 
 def pages():
-    return ["README.md", *sorted(os.path.relpath(path, ROOT) for path in glob.glob(os.path.join(ROOT, "docs", "*.md")))]
+    return ["README.md", *sorted(os.path.basename(path) for path in glob.glob(os.path.join(ROOT, "[!R]*.md"))), *sorted(os.path.relpath(path, ROOT) for path in glob.glob(os.path.join(ROOT, "docs", "*.md")))]
 
 
 def groups():
@@ -275,6 +276,15 @@ def check_hosts():
             yield f"{path}: what is promised of a host does not stand there in the words of bench/documents.py"
 
 
+def check_picture():
+    """Whether the picture of the parts is the one that its script draws."""
+    drawn = subprocess.run([sys.executable, os.path.join(ROOT, "bench", "architecture.py")], capture_output=True, text=True, check=False)
+    if drawn.returncode:
+        yield drawn.stderr.strip()
+    elif drawn.stdout != read("docs/architecture.svg"):
+        yield "docs/architecture.svg: it is not what bench/architecture.py draws"
+
+
 def check_code():
     """Long lines; and names in backquotes that look like names of code, and stand in no source."""
     long_lines, words = 0, set(FOREIGN)
@@ -312,6 +322,7 @@ def main():
         *check_names(crates),
         *check_definitions(),
         *check_hosts(),
+        *check_picture(),
         *check_code(),
     ]
     print("\n".join(off) if off else f"{len(pages())} pages and {len(crates)} crates: nothing is off")
