@@ -1,11 +1,10 @@
 -- The steps of the admin queue: what is posted, and what is kept.
-use Rattle.std.proofs.Common.{◌≡◌, ℕ, Bool, true, false, ◌==◌, eq-eqb, List, slice_index, Option, Some, None, Result, Ok, refl, sym, ap, subst, ◌∙◌}
+use Rattle.std.proofs.Common.{◌≡◌, ℕ, Bool, true, false, ◌==◌, eq-eqb, List, slice_index, Option, Some, None, Ok, refl, sym, ap, ◌∙◌}
 use Rattle.std.specs.List.{AllPairs}
 use Rattle.nv_entry.specs.Submission.{cid_of}
-use Rattle.nv_entry.specs.declared.status_code.StatusCode.{StatusCode}
 use Rattle.nv_mem.specs.GuestMap.{IsApart, mapped}
 use Rattle.nv_mem.specs.declared.region.Region.{Region}
-use Rattle.nv_model.specs.Admin.{AdminEffect, AdminStep, NothingToDo, QueueFull, Stepped, admin, admin_command, admin_ready}
+use Rattle.nv_model.specs.Admin.{AdminStep, NothingToDo, QueueFull, Stepped, admin, admin_command, admin_ready}
 use Rattle.nv_model.specs.Admin.{finish_deletion, front_command, is_queue_full, stepped, with_completion_posted}
 use Rattle.nv_model.specs.Controller.{Controller, Deletion, Posted, completion_queue, front, is_ready, submission_queue, took, took_of}
 use Rattle.nv_model.specs.Memory.{bytes_from, image, put_image, stored}
@@ -14,9 +13,8 @@ use Rattle.nv_model.proofs.MemoryAlike.{stored-at}
 use Rattle.nv_model.proofs.PutImages.{image-put_image, put_image-twice}
 use Rattle.nv_vctl.specs.Vctl.{controller_behind as behind_post, deletion_finished, entry_at, finished_from, host_behind as host_behind_post, posted_or_held}
 use Rattle.nv_vctl.specs.declared.posted.Posted.TheVariants as posted
-use Rattle.nv_admin.specs.Effect.{IsDone, effect}
+use Rattle.nv_admin.specs.Effect.{effect}
 use Rattle.nv_admin.specs.Event.{IsStepped, controller_behind, host_behind, reply_of}
-use Rattle.nv_admin.specs.declared.outcome.Outcome.{Outcome}
 use Rattle.nv_admin.specs.declared.outcome.Outcome.TheVariants as outcome
 use Rattle.nv_admin.specs.declared.reply.Admin.TheVariants as reply
 
@@ -106,11 +104,3 @@ took-keeps c = by_queue (submission_queue c 0)
         × (completion_queue (took_of o c 0) 0 ≡ completion_queue c 0)
     by_queue None = (refl, refl, refl)
     by_queue (Some q) = (refl, refl, refl)
-
--- a command that was carried out, and its answer posted
-pub done-stepped : (rs : List Region) (before mid after : ℕ → ℕ) (done : AdminEffect) (o : Result Outcome StatusCode) (c d : Controller) (cid : ℕ)
-    → IsDone done o c rs before mid
-    → ((memory start : ℕ → ℕ) → mid ≡ put_image rs memory start → IsStepped rs start (stepped (effect o c memory) cid) d after)
-    → IsStepped rs before (stepped done cid) d after
-done-stepped rs before mid after done o c d cid is step =
-    subst (λ (e : AdminEffect). IsStepped rs before (stepped e cid) d after) (sym is.effect_is) (step done.memory before is.host)

@@ -1,4 +1,5 @@
 pub mod DataStructure
 pub mod Effect
 pub mod Event
+pub mod Identify
 pub mod PageBuffer

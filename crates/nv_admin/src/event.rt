@@ -12,6 +12,7 @@ ghost use Rattle.nv_admin.specs.Event.{IsStepped, controller_behind, host_behind
 use crate::commands;
 use crate::outcome::Outcome;
 use crate::reply::Admin;
+use crate::shown_page::store_page;
 use nv_entry::{Status, StatusCode};
 use nv_mem::{GuestMap, MemoryCell};
 use nv_vctl::{Deletion, Posted, Vctl};
@@ -107,8 +108,9 @@ fn do_command<C: MemoryCell>(vctl: &mut Vctl, blocks: u64, map: &GuestMap, host:
         return Admin::Held;
     }
     vctl.took(ADMIN_QUEUE);
-    let outcome = commands::carry_out(vctl, &sqe, blocks, map, host);
-    complete(outcome, sqe.cid(), vctl, map, host)
+    let carried = commands::carry_out(vctl, &sqe, blocks, map);
+    store_page(carried.page, map, host);
+    complete(carried.outcome, sqe.cid(), vctl, map, host)
 }
 
 // Posts the completion of an admin command, if it has one now. What memory the command left was put back into the host already.

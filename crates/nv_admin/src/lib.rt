@@ -30,6 +30,7 @@
 //! memory in at most two stores. Both page entries are checked before.
 #![tactic(auto)]
 
+mod carried;
 mod commands;
 mod data_structure;
 mod due;
@@ -41,6 +42,7 @@ mod outcome;
 mod page_buffer;
 mod queues;
 mod reply;
+mod shown_page;
 
 pub use due::is_due;
 pub use event::admin;
