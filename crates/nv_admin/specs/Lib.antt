@@ -1,3 +1,4 @@
+pub mod Administering
 pub mod DataStructure
 pub mod Effect
 pub mod Event
