@@ -1,10 +1,12 @@
 -- What an Admin without memory is answered, and what the host is to do in memory for it (profile).
-use Rattle.std.specs.Prelude.{List, [], ◌++◌, Option, Some, None}
+use Rattle.std.specs.Prelude.{List, [], ◌++◌, Option, Some, None, IfSome}
+use Rattle.nv_admin.specs.Administering.{AreMapped}
 use Rattle.nv_admin.specs.Effect.{stored_by}
 use Rattle.nv_admin.specs.Identify.{Stored}
 use Rattle.nv_admin.specs.declared.administered.Administered.{Administered}
 use Rattle.nv_admin.specs.declared.administered.Administered.TheVariants as done
 use Rattle.nv_machine.specs.Effects.{Effect, completion_stores, stores}
+use Rattle.nv_mem.specs.GuestMap.{mapped}
 use Rattle.nv_mem.specs.Places.{places_of}
 use Rattle.nv_mem.specs.declared.region.Region.{Region}
 use Rattle.nv_model.specs.declared.reply.Reply.{Reply}
@@ -37,3 +39,7 @@ admin_effects (Some given) (Some done.Idle) = []
 admin_effects (Some given) (Some done.Held) = []
 admin_effects (Some given) (Some (done.Done page completion)) =
     page_effects (stored_by page) (regions_of given) ++ completion_effects completion (regions_of given)
+
+-- all that is stored lies in that guest's memory
+abbrev pub AreStoresMapped : Option Guest → Option Administered → Type 0
+AreStoresMapped given told = IfSome told (λ a. IfSome given (λ g. AreMapped (mapped (regions_of g)) a))

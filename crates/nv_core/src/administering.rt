@@ -1,7 +1,7 @@
 //! The guests' admin queues.
 
 ghost use Rattle.std.specs.Prelude.{◌≡◌, [], length, slice_get};
-ghost use Rattle.nv_core.specs.AdminEffects.{admin_effects, admin_reply};
+ghost use Rattle.nv_core.specs.AdminEffects.{AreStoresMapped, admin_effects, admin_reply};
 ghost use Rattle.nv_core.specs.Seat.{told_by};
 ghost use Rattle.nv_core.specs.Front.{IsSideStep};
 ghost use Rattle.nv_core.specs.Kept.{IsLent};
@@ -47,6 +47,7 @@ impl Front {
         requires { IsKept layout.now self.old }
         ensures call { call layout.now (Event.Admin guest) entry.now self.old
             ≡ replied (admin_reply result) (record { side = self.new; effects = admin_effects (slice_get layout.now.guests guest) result }) }
+        ensures mapped { AreStoresMapped (slice_get layout.now.guests guest) result }
         ensures tails { self.new.tails ≡ self.old.tails }
     {
         let given = layout.guest(guest)?;

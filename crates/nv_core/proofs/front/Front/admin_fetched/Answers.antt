@@ -1,4 +1,5 @@
-use Rattle.std.proofs.Common.{◌<◌, ◌∙◌, ap, length, subst, sym, arith, ℕ, refl, set}
+use Rattle.std.proofs.Common.{Option, IfSome, ◌<◌, ◌∙◌, ap, length, subst, sym, arith, ℕ, refl, set}
+use Rattle.nv_admin.specs.Administering.{AreMapped}
 use Rattle.nv_core.specs.Noted.{AreNoted}
 use Rattle.nv_core.proofs.Notes.{noted-set}
 use Rattle.nv_core.proofs.GroupWorlds.{looked-up}
@@ -7,6 +8,7 @@ use Rattle.nv_laws_sound.specs.Side.{IsKept, Side}
 use Rattle.nv_mem.specs.GuestMap.{Mapping, mapped}
 use Rattle.nv_model.specs.Laws.{QueuesInPlace}
 use Rattle.nv_ns.specs.Extents.{blocks_in}
+use Rattle.nv_world_model.specs.Geometry.{Guest, regions_of}
 use Rattle.nv_core.proofs.front.Front.admin_fetched.Goals as goal
 
 pub returns-in_err-given-clause-call : goal.returns-in_err-given-clause-call
@@ -39,6 +41,11 @@ returns-clause-call c =
     call-done c.args.layout.now s c.args.self.now c.args.guest c.args.entry.now c.self.view_is c.in_ok-given.given.now c.in_ok-given.ensures
     c.index_mut-vctl.result.now found c.from-number.result c.administer.new.vctl c.map.result.now c.blocks-block_count.result c.administer.result
     c.from-number.ensures c.map.ensures (c.blocks-block_count.ensures.value ∙ ap blocks_in c.ns.ensures) c.administer.ensures.event
+
+pub returns-clause-mapped : goal.returns-clause-mapped
+returns-clause-mapped c =
+    subst (λ (g : Option Guest). IfSome g (λ x. AreMapped (mapped (regions_of x)) c.administer.result)) (sym c.in_ok-given.ensures)
+    (subst (λ (k : Mapping). AreMapped (mapped k.regions) c.administer.result) c.map.ensures c.administer.ensures.in_map)
 
 pub invariant_of-self : goal.invariant_of-self
 invariant_of-self c =
