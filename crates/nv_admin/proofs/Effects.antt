@@ -1,48 +1,17 @@
--- What is known of a command's effect.
-use Rattle.std.proofs.Common.{◌≡◌, ℕ, zero, suc, ◌<◌, Bool, true, false, cond, ◌==◌, eq-eqb, eqb-true, List, [], ◌∷◌, length, set, slice_get, Option, Some}
-use Rattle.std.proofs.Common.{IsSome, Result, Ok, Err, arith, refl, sym, ap, ◌∙◌}
-use Rattle.std.specs.List.{AllPairs}
-use Rattle.nv_entry.specs.declared.status_code.StatusCode.{StatusCode}
+-- What is known of a command's effect, and of what it stores.
+use Rattle.std.proofs.Common.{◌≡◌, ℕ, zero, suc, ◌<◌, Bool, true, false, cond, ◌==◌, eq-eqb, eqb-true, List, [], ◌∷◌, length, set, slice_get, Option, Some, None}
+use Rattle.std.proofs.Common.{IsSome, arith, refl, sym, ap}
 use Rattle.nv_entry.specs.declared.opcode.AdminOpcode.{AdminOpcode}
 use Rattle.nv_entry.specs.declared.data_pointer.DataPointer.TheVariants as pointer
 use Rattle.nv_entry.specs.declared.status_code.StatusCode.TheVariants as code
 use Rattle.nv_entry.specs.Opcode.{admin_opcode, data_pointer}
 use Rattle.nv_entry.specs.Submission.{fuse_of, opcode_of, psdt_of}
-use Rattle.nv_mem.specs.GuestMap.{IsApart, mapped}
-use Rattle.nv_mem.specs.declared.region.Region.{Region}
-use Rattle.nv_model.specs.Admin.{AdminEffect, admin_command, done_by, done_with_opcode, refused}
+use Rattle.nv_mem.specs.GuestMap.{mapped}
+use Rattle.nv_model.specs.Admin.{admin_command, done_by, done_with_opcode, refused}
 use Rattle.nv_model.specs.Controller.{Controller, queue_count, queue_of}
-use Rattle.nv_model.specs.Memory.{image, put_image}
-use Rattle.nv_model.proofs.PutImages.{put_image-own}
 use Rattle.nv_vctl.specs.Vctl.{IsIoQueue}
 use Rattle.nv_vctl.proofs.Whole.{queue-below}
-use Rattle.nv_admin.specs.Effect.{IsDone, effect}
-use Rattle.nv_admin.specs.declared.outcome.Outcome.{Outcome}
-use Rattle.nv_admin.specs.declared.outcome.Outcome.TheVariants as outcome
-
--- the memory of an effect is what was put into it
-effect-memory : (o : Result Outcome StatusCode) (c : Controller) (memory : ℕ → ℕ) → (effect o c memory).memory ≡ memory
-effect-memory (Ok outcome.Pending) c memory = refl
-effect-memory (Ok (outcome.Done dw0)) c memory = refl
-effect-memory (Err why) c memory = refl
-
--- a command that left memory as it was
-pub IsDone-left : (done : AdminEffect) (o : Result Outcome StatusCode) (c : Controller) (rs : List Region) (before : ℕ → ℕ) → AllPairs IsApart rs
-    → done ≡ effect o c (image rs before) → IsDone done o c rs before before
-IsDone-left done o c rs before apart is =
-    let same : done.memory ≡ image rs before = ap (λ (e : AdminEffect). e.memory) is ∙ effect-memory o c (image rs before) in
-    record {
-      effect_is = is ∙ ap (effect o c) (sym same);
-      host = sym (put_image-own rs before apart) ∙ ap (λ (g : ℕ → ℕ). put_image rs g before) (sym same);
-    }
-
--- a command of that opcode did
-pub IsDone-by : (opcode is : AdminOpcode) (rs : List Region) (blocks : ℕ) (entry : List ℕ) (c new : Controller)
-    (o : Result Outcome StatusCode) (before : ℕ → ℕ)
-    → AllPairs IsApart rs → opcode ≡ is → done_by is (mapped rs) blocks entry c (image rs before) ≡ effect o new (image rs before)
-    → IsDone (done_by opcode (mapped rs) blocks entry c (image rs before)) o new rs before before
-IsDone-by opcode is rs blocks entry c new o before apart same did =
-    IsDone-left _ o new rs before apart (ap (λ (code : AdminOpcode). done_by code (mapped rs) blocks entry c (image rs before)) same ∙ did)
+use Rattle.nv_admin.specs.Identify.{command_stored, done_stored, opcode_stored}
 
 -- ---- what is kept
 
@@ -103,6 +72,29 @@ pub command-pointer : (mapped : ℕ → Bool) (blocks : ℕ) (entry : List ℕ) 
 command-pointer mapped blocks entry c memory opcode other =
     (elim (psdt_of entry == 0) as (λ b. (psdt_of entry == 0) ≡ b
     → cond b (done_by opcode mapped blocks entry c memory) (refused code.InvalidField c memory) ≡ refused code.InvalidField c memory) [
+      | true ↦ λ is. absurd (other (sym (rw is refl)))
+      | false ↦ λ is. refl
+    ]) refl
+
+-- ---- what it stores
+
+pub stored-fused : (mapped : ℕ → Bool) (blocks : ℕ) (entry : List ℕ) → (fuse_of entry ≡ 0 → ⊥) → command_stored mapped blocks entry ≡ None
+stored-fused mapped blocks entry some = let is : (fuse_of entry == 0) ≡ false = differ-eqb (fuse_of entry) 0 some in rw is refl
+
+pub stored-alone : (mapped : ℕ → Bool) (blocks : ℕ) (entry : List ℕ) (o : Option AdminOpcode) → fuse_of entry ≡ 0
+    → o ≡ admin_opcode (opcode_of entry) → command_stored mapped blocks entry ≡ opcode_stored o mapped blocks entry
+stored-alone mapped blocks entry o none is =
+    let zero : (fuse_of entry == 0) ≡ true = eq-eqb (fuse_of entry) 0 none in
+    rw zero (ap (λ (opcode : Option AdminOpcode). opcode_stored opcode mapped blocks entry) (sym is))
+
+pub stored-pages : (mapped : ℕ → Bool) (blocks : ℕ) (entry : List ℕ) (opcode : AdminOpcode) → pointer.Prp ≡ data_pointer (psdt_of entry)
+    → opcode_stored (Some opcode) mapped blocks entry ≡ done_stored opcode mapped blocks entry
+stored-pages mapped blocks entry opcode is = let zero = prp-zero (psdt_of entry) is in rw zero refl
+
+pub stored-pointer : (mapped : ℕ → Bool) (blocks : ℕ) (entry : List ℕ) (opcode : AdminOpcode)
+    → (pointer.Prp ≡ data_pointer (psdt_of entry) → ⊥) → opcode_stored (Some opcode) mapped blocks entry ≡ None
+stored-pointer mapped blocks entry opcode other =
+    (elim (psdt_of entry == 0) as (λ b. (psdt_of entry == 0) ≡ b → cond b (done_stored opcode mapped blocks entry) None ≡ None) [
       | true ↦ λ is. absurd (other (sym (rw is refl)))
       | false ↦ λ is. refl
     ]) refl

@@ -1,3 +1,5 @@
+pub mod Administering
+pub mod Cases
 pub mod Dues
 pub mod Effects
 pub mod Exits

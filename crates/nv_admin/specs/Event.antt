@@ -1,5 +1,5 @@
 -- What an event of the admin queue comes to, for its caller (profile).
-use Rattle.std.specs.Prelude.{◌≡◌, ℕ, Bool, true, false, List}
+use Rattle.std.specs.Prelude.{ℕ, Bool, true, false, List}
 use Rattle.nv_mem.specs.declared.region.Region.{Region}
 use Rattle.nv_model.specs.Admin.{AdminStep, NothingToDo, QueueFull, Stepped}
 use Rattle.nv_model.specs.Controller.{Controller}
@@ -30,9 +30,3 @@ abbrev pub host_behind : List Region → (host : ℕ → ℕ) → AdminStep → 
 host_behind regions host NothingToDo = host
 host_behind regions host QueueFull = host
 host_behind regions host (Stepped d memory) = put_image regions memory host
-
--- a step was done: after it are this controller, and this host, which was `before` before the step
-abbrev pub IsStepped : List Region → (before : ℕ → ℕ) → AdminStep → Controller → (after : ℕ → ℕ) → Type 0
-IsStepped regions before NothingToDo c after = ⊥
-IsStepped regions before QueueFull c after = ⊥
-IsStepped regions before (Stepped d memory) c after = (c ≡ d) × (after ≡ put_image regions memory before)

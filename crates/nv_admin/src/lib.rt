@@ -18,18 +18,23 @@
 //! | 0Ah | Get Features | the number of queues alone |
 //! | 0Ch | Asynchronous Event Request | the first four are held and never answered |
 //!
+//! [`administer`] is the same event without a memory. It is given the command that was fetched, and returns what is to be stored: the page of
+//! Identify, and the completion, in this order. [`admin`] fetches the command, calls [`administer`], and stores.
+//!
 //! Before these checks, a fused command, an unknown opcode and a data pointer that is no PRP are refused, in this order. A refusal has DNR 1, and
 //! where a command is refused nothing else changes. Nothing here takes memory.
 //!
 //! There is one function for each command, and one table from opcodes to them. The checks of a command are functions whose contract is the
 //! definition's list of checks, and `?` refuses by the first that fails. A command returns its outcome: done with a DW0, pending, or the status of
-//! its refusal. It changes the controller by calls of `nv_vctl` alone. Its completion is posted in one place, after it. No command changes the
-//! admin completion queue, so room that was there before the command is there after it.
+//! its refusal. It changes the controller by calls of `nv_vctl` alone, and has no memory. Its completion is made in one place, after it. No command
+//! changes the admin completion queue, so room that was there before the command is there after it.
 //!
-//! The data structures of Identify are tables of offset, length and value. They are written into one page on the stack, which goes to the guest's
-//! memory in at most two stores. Both page entries are checked before.
+//! The data structures of Identify are tables of offset, length and value. A [`ShownPage`] is one of them, and where it goes: both page entries are
+//! checked before there is one. It is written into one page on the stack when it is stored, which takes at most two stores.
 #![tactic(auto)]
 
+mod administered;
+mod carried;
 mod commands;
 mod data_structure;
 mod due;
@@ -41,7 +46,10 @@ mod outcome;
 mod page_buffer;
 mod queues;
 mod reply;
+mod shown_page;
 
+pub use administered::Administered;
 pub use due::is_due;
-pub use event::admin;
+pub use event::{admin, administer};
 pub use reply::Admin;
+pub use shown_page::ShownPage;

@@ -3,6 +3,7 @@ pub mod Notes
 pub mod Placed
 pub mod LentHost
 pub mod Sides
+pub mod CallAdmins
 pub mod Delegated
 pub mod PhasedReaps
 pub mod Openings

@@ -1,3 +1,4 @@
+pub mod AdminEffects
 pub mod Places
 pub mod State
 pub mod Front

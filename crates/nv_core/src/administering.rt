@@ -1,14 +1,19 @@
 //! The guests' admin queues.
 
-ghost use Rattle.std.specs.Prelude.{◌≡◌, length};
+ghost use Rattle.std.specs.Prelude.{◌≡◌, [], length, slice_get};
+ghost use Rattle.nv_core.specs.AdminEffects.{AreStoresMapped, admin_effects, admin_reply};
 ghost use Rattle.nv_core.specs.Seat.{told_by};
 ghost use Rattle.nv_core.specs.Front.{IsSideStep};
 ghost use Rattle.nv_core.specs.Kept.{IsLent};
+ghost use Rattle.nv_laws_sound.specs.Side.{IsKept};
+ghost use Rattle.nv_machine.specs.Doing.{replied};
+ghost use Rattle.nv_machine.specs.Machine.{call, fetch};
 
 use crate::front::Front;
 use crate::layout::Layout;
 use crate::noting::noted;
-use nv_admin::Admin;
+use nv_admin::{Admin, Administered};
+use nv_entry::Sqe;
 use nv_mem::MemoryCell;
 use nv_model::Reply;
 use nv_world_model::Event;
@@ -34,6 +39,26 @@ impl Front {
         self.noted = noted(self.noted, guest);
         let vctl = &mut self.controllers[number];
         reply_of(nv_admin::admin(vctl, block_count, given.map(), host))
+    }
+
+    /// [`Front::admin`] without a memory, by the command that was fetched. Where nothing is fetched any command does: it isn't looked at. `None`
+    /// where there is no such guest. What is to be stored is in the result, at addresses of the guest, all of which are mapped.
+    pub fn admin_fetched(&mut self, layout: &Layout, guest: u8, entry: &Sqe) -> Option<Administered>
+        requires { IsKept layout.now self.old }
+        ensures call { call layout.now (Event.Admin guest) entry.now self.old
+            ≡ replied (admin_reply result) (record { side = self.new; effects = admin_effects (slice_get layout.now.guests guest) result }) }
+        ensures mapped { AreStoresMapped (slice_get layout.now.guests guest) result }
+        ensures tails { self.new.tails ≡ self.old.tails }
+    {
+        let given = layout.guest(guest)?;
+        let number = usize::from(guest);
+        if number >= self.controllers.len() {
+            return None;
+        }
+        let block_count = given.ns().blocks();
+        self.noted = noted(self.noted, guest);
+        let vctl = &mut self.controllers[number];
+        Some(nv_admin::administer(vctl, block_count, given.map(), entry))
     }
 }
 

@@ -1,10 +1,13 @@
 -- Commands that are looked at, taken and completed, by the queues that are found.
-use Rattle.std.proofs.Common.{◌≡◌, ℕ, zero, suc, ◌+◌, ◌-◌, ◌*◌, ◌<◌, ◌≤◌, ◌^◌, Bool, true, false, cond, ◌==◌, if◌then◌else◌, List, slice_index}
+use Rattle.std.proofs.Common.{◌≡◌, ℕ, zero, suc, ◌+◌, ◌-◌, ◌*◌, ◌<◌, ◌≤◌, ◌^◌, Bool, true, false, cond, ◌==◌, if◌then◌else◌, List, length, slice_index}
 use Rattle.std.proofs.Common.{slice_set, Option, Some, None, IsSome, arith, refl, sym, ap, ◌∙◌, subst}
+use Rattle.std.specs.Option.{option_map}
+use Rattle.nv_entry.proofs.CompletionLemmas.{length-completion}
 use Rattle.nv_entry.specs.Completion.{completion}
 use Rattle.nv_entry.specs.Status.{StatusField}
 use Rattle.nv_mem.specs.declared.region.Region.{Region}
-use Rattle.nv_vctl.specs.Vctl.{host_behind}
+use Rattle.nv_vctl.specs.Vctl.{CompletionsFit, host_behind, posting_of}
+use Rattle.nv_vctl.specs.declared.posting.Posting.{Posting}
 use Rattle.nv_model.specs.Memory.{image, put_image, stored}
 use Rattle.nv_mem.specs.GuestMap.{IsSound, Mapping, everywhere, mapped}
 use Rattle.nv_mem.proofs.MappedRuns.{mapped-below}
@@ -110,7 +113,7 @@ submission-mapped test c y q place is =
     everywhere-part test q.base (sqe_size * q.size) (sqe_size * q.head) sqe_size has.1 (omega arith)
 
 -- and of a completion queue
-pub completion-fits : (m : Mapping) (c : Controller) (y : ℕ) (q : CompletionQueue) → IsSound m → QueuesInPlace (mapped m.regions) c
+completion-fits : (m : Mapping) (c : Controller) (y : ℕ) (q : CompletionQueue) → IsSound m → QueuesInPlace (mapped m.regions) c
     → completion_queue c y ≡ Some q → q.base + cqe_size * q.size ≤ 2 ^ 64
 completion-fits m c y q sound place is =
     let test : ℕ → Bool = mapped m.regions in
@@ -118,12 +121,16 @@ completion-fits m c y q sound place is =
     let some = has.0.at_least in
     mapped-end m q.base (cqe_size * q.size) sound has.1 (omega arith)
 
-pub completion-mapped : (test : ℕ → Bool) (c : Controller) (y : ℕ) (q : CompletionQueue) → QueuesInPlace test c
+completion-mapped : (test : ℕ → Bool) (c : Controller) (y : ℕ) (q : CompletionQueue) → QueuesInPlace test c
     → completion_queue c y ≡ Some q → everywhere test (q.base + cqe_size * q.tail) cqe_size ≡ true
 completion-mapped test c y q place is =
     let has = completion_queue-has test (IsSubmissionInPlace test) (IsCompletionInPlace test) (IsKept-in_place test) c y q place is in
     let below = has.0.tail_is_slot in
     everywhere-part test q.base (cqe_size * q.size) (cqe_size * q.tail) cqe_size has.1 (omega arith)
+
+-- so the slots of all of them fit
+pub completions-fit : (m : Mapping) (c : Controller) → IsSound m → QueuesInPlace (mapped m.regions) c → CompletionsFit c
+completions-fit m c sound place = λ y q is. completion-fits m c y q sound place is
 
 -- ---- taking
 
@@ -182,15 +189,14 @@ pub post-done : {c : Controller} {y to : ℕ} {q : SubmissionQueue} {cq : Comple
 post-done {c} {y} {to} {q} {cq} {full} dw0 cid st found is =
     post-found c y to dw0 cid st q cq full found ∙ ap (λ (b : Bool). cond b None (Some (posted_to c q cq y dw0 cid st))) is
 
--- the host behind an entry that is written where the completion that is posted says
-pub host-posted : (rs : List Region) (host after : ℕ → ℕ) (c : Controller) (q : SubmissionQueue) (cq : CompletionQueue)
-    (y dw0 cid head addr : ℕ) (phase : Bool) (st : StatusField) (bytes cqe : List ℕ) → after ≡ put_image rs (stored (image rs host) addr bytes) host → addr ≡ cq.base + cqe_size * cq.tail
+-- a completion that is made of the queues that were found
+pub posting-made : (c : Controller) (q : SubmissionQueue) (cq : CompletionQueue)
+    (y dw0 cid head addr : ℕ) (phase : Bool) (st : StatusField) (bytes cqe : List ℕ) → addr ≡ cq.base + cqe_size * cq.tail
     → bytes ≡ cqe → cqe ≡ completion dw0 head y cid phase st → head ≡ q.head → phase ≡ cq.phase
-    → after ≡ host_behind rs host (Some (posted_to c q cq y dw0 cid st))
-host-posted rs host after c q cq y dw0 cid head addr phase st bytes cqe written at of entry from tag =
-    written
-    ∙ ap (λ (a : ℕ). put_image rs (stored (image rs host) a bytes) host) at
-    ∙ ap (λ (e : List ℕ). put_image rs (stored (image rs host) (cq.base + cqe_size * cq.tail) e) host)
+    → (let p : Option Posting = Some (record { addr = addr; entry = bytes }) in p) ≡ Some (posting_of (posted_to c q cq y dw0 cid st))
+posting-made c q cq y dw0 cid head addr phase st bytes cqe at of entry from tag =
+    ap (λ (a : ℕ). let p : Option Posting = Some (record { addr = a; entry = bytes }) in p) at
+    ∙ ap (λ (e : List ℕ). let p : Option Posting = Some (record { addr = cq.base + cqe_size * cq.tail; entry = e }) in p)
     (of ∙ entry ∙ ap (λ (h : ℕ). completion dw0 h y cid phase st) from ∙ ap (λ (p : Bool). completion dw0 q.head y cid p st) tag)
 
 -- what posting to the queues that were found comes to
@@ -214,3 +220,37 @@ post-made v c y n dw0 cid st q cq new to taken same at goes behind count =
       taken = (if m == 0 then v.taken else slice_set v.taken m (slice_index v.taken m - 1));
     }) at
     ∙ ap (λ (w : Controller). (posted_to w q cq y dw0 cid st).controller) same
+
+-- ---- storing
+
+-- all of a completion's bytes are mapped
+pub post-mapped : (test : ℕ → Bool) (c : Controller) (y dw0 cid : ℕ) (st : StatusField) (p : Posting) → QueuesInPlace test c
+    → Some p ≡ option_map posting_of (post c y dw0 cid st) → everywhere test p.addr (length p.entry) ≡ true
+unfolding post
+post-mapped test c y dw0 cid st p place = by_queue (submission_queue c y)
+  where
+    by_full : (b : Bool) (q : SubmissionQueue) (cq : CompletionQueue) → completion_queue c q.completes_to ≡ Some cq
+        → Some p ≡ option_map posting_of (cond b None (Some (posted_to c q cq y dw0 cid st))) → everywhere test p.addr (length p.entry) ≡ true
+    by_full true q cq there is = cc
+    by_full false q cq there is =
+        let same : p ≡ posting_of (posted_to c q cq y dw0 cid st) = cc in
+        ap (λ (x : Posting). everywhere test x.addr (length x.entry)) same
+        ∙ ap (everywhere test (cq.base + cqe_size * cq.tail)) (length-completion dw0 q.head y cid cq.phase st)
+        ∙ completion-mapped test c q.completes_to cq place there
+
+    by_completions : (found : Option CompletionQueue) (q : SubmissionQueue) → completion_queue c q.completes_to ≡ found
+        → Some p ≡ option_map posting_of (post_to found c q y dw0 cid st) → everywhere test p.addr (length p.entry) ≡ true
+    by_completions None q there is = cc
+    by_completions (Some cq) q there is = by_full (is_full cq.size cq.head cq.tail) q cq there is
+
+    by_queue : (found : Option SubmissionQueue) → Some p ≡ option_map posting_of (post_from found c y dw0 cid st)
+        → everywhere test p.addr (length p.entry) ≡ true
+    by_queue None is = cc
+    by_queue (Some q) is = by_completions (completion_queue c q.completes_to) q refl is
+
+-- the host behind a completion that was stored
+pub host-stored : (rs : List Region) (host after : ℕ → ℕ) (found : Option Posted) (p : Posting) → Some p ≡ option_map posting_of found
+    → after ≡ put_image rs (stored (image rs host) p.addr p.entry) host → after ≡ host_behind rs host found
+host-stored rs host after None p is written = cc
+host-stored rs host after (Some posted) p is written =
+    let same : p ≡ posting_of posted = cc in written ∙ ap (λ (x : Posting). put_image rs (stored (image rs host) x.addr x.entry) host) same

@@ -1,14 +1,15 @@
 -- Words for what the calls of a virtual controller do, over `Controller` of nv_model: Base Specification 2.0, "Controller
 -- Properties", "Memory-based Transport Queue Model". How many taken commands are counted is the project's own (profile).
-use Rattle.std.specs.Prelude.{◌≡◌, ℕ, ◌<◌, ◌≤◌, true, List, IfSome, Option, Some, None, slice_index}
+use Rattle.std.specs.Prelude.{◌≡◌, ℕ, ◌+◌, ◌*◌, ◌^◌, ◌<◌, ◌≤◌, true, List, IfSome, Option, Some, None, slice_index}
 use Rattle.nv_mem.specs.declared.region.Region.{Region}
 use Rattle.nv_model.specs.Controller.{Controller, Deletion, Posted, completion_queue, submission_queue, with_submission}
 use Rattle.nv_model.specs.Limits.{last_queue}
 use Rattle.nv_model.specs.Memory.{bytes_from, image, put_image, stored}
-use Rattle.nv_model.specs.Queue.{CompletionQueue, SubmissionQueue, sqe_size}
+use Rattle.nv_model.specs.Queue.{CompletionQueue, SubmissionQueue, cqe_size, sqe_size}
 use Rattle.nv_model.specs.Running.{IsTogether}
 use Rattle.nv_vctl.specs.declared.posted.Posted.{Posted as Reply}
 use Rattle.nv_vctl.specs.declared.posted.Posted.TheVariants as reply
+use Rattle.nv_vctl.specs.declared.posting.Posting.{Posting}
 
 -- ---- what is kept
 
@@ -24,6 +25,10 @@ most_taken = 65535
 -- the number of an I/O queue
 abbrev pub IsIoQueue : ℕ → Type 0
 IsIoQueue queue = (0 < queue) × (queue ≤ last_queue)
+
+-- the slots of each completion queue end at 2 to the 64 at the latest, as those do that lie in a guest's map
+abbrev pub CompletionsFit : Controller → Type 0
+CompletionsFit c = (queue : ℕ) (q : CompletionQueue) → completion_queue c queue ≡ Some q → q.base + cqe_size * q.size ≤ 2 ^ 64
 
 -- ---- what is done
 
@@ -45,6 +50,10 @@ entry_at memory (Some addr) = Some (bytes_from memory addr sqe_size)
 abbrev pub posted_or_held : Option Posted → Reply
 posted_or_held None = reply.Held
 posted_or_held (Some p) = reply.Done
+
+-- a completion without the controller after it
+abbrev pub posting_of : Posted → Posting
+posting_of p = record { addr = p.addr; entry = p.entry }
 
 -- the controller after a completion, if it is posted
 abbrev pub controller_behind : Controller → Option Posted → Controller

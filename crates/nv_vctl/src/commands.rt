@@ -1,15 +1,16 @@
 //! Commands: read, taken, completed, or run out.
 
-ghost use Rattle.std.specs.Prelude.{◌≡◌, ◌<◌, ℕ, Bool, IsSome, length, slice_index, true, false};
+ghost use Rattle.std.specs.Prelude.{◌≡◌, ◌<◌, ℕ, Bool, IsSome, None, length, option_map, slice_index, true, false};
 ghost use Rattle.nv_mem.specs.GuestMap.{mapped};
 ghost use Rattle.nv_model.specs.Admin.{is_queue_full};
 ghost use Rattle.nv_model.specs.Controller.{completion_queue, front, is_enabled, is_ready, post, ran_out, took};
 ghost use Rattle.nv_model.specs.Laws.{QueuesInPlace};
 ghost use Rattle.nv_model.specs.Memory.{byte_in, image};
-ghost use Rattle.nv_vctl.specs.Vctl.{completes_in, controller_behind, entry_at, host_behind, most_taken, posted_or_held};
+ghost use Rattle.nv_vctl.specs.Vctl.{CompletionsFit, completes_in, controller_behind, entry_at, host_behind, most_taken, posted_or_held, posting_of};
 ghost use Rattle.nv_vctl.specs.declared.posted.Posted.TheVariants as posted;
 
 use crate::posted::Posted;
+use crate::posting::Posting;
 use crate::vctl::{Vctl, any_taken, count_ended, count_taken};
 use nv_entry::{Cqe, Sqe, Status};
 use nv_mem::{GuestMap, MemoryCell};
@@ -86,23 +87,46 @@ impl Vctl {
     {
         // With the length of the host comes what is known of every map.
         let _known = map.host_len();
+        let Some(posting) = self.post(queue, dw0, cid, status) else {
+            return Posted::Held;
+        };
+        nv_bounce::store(&posting.entry, posting.addr, map, host);
+        Posted::Done
+    }
+
+    /// The completion of a command of a queue, with this command specific dword, command identifier and status, for the caller to
+    /// store where it goes; of an I/O queue one command fewer is taken then. `None`, with nothing changed, exactly where the
+    /// completion queue is full.
+    ///
+    /// The caller knows that the controller is ready ([`Vctl::is_ready`]) and that a command of the I/O queue is taken
+    /// ([`Vctl::taken`]), and that the completion queues end at 2 to the 64 at the latest, as those do that lie wholly in a map
+    /// ([`Vctl::lies_in`]).
+    pub fn post(&mut self, queue: u16, dw0: u32, cid: u16, status: Status) -> Option<Posting>
+        requires ready { is_ready self.old ≡ true }
+        requires taken { 0 < queue → 0 < slice_index self.old.taken queue }
+        requires fits { CompletionsFit self.old }
+        ensures posting { result ≡ option_map posting_of (post self.old queue dw0 cid status) }
+        ensures state { self.new ≡ controller_behind self.old (post self.old queue dw0 cid status) }
+        ensures held { result ≡ None → is_queue_full (completes_in self.old queue) ≡ true }
+        ensures admin { queue ≡ 0 → result ≡ None → is_queue_full (completion_queue self.old 0) ≡ true }
+        ensures in_place { (test : ℕ → Bool) → QueuesInPlace test self.old → QueuesInPlace test self.new }
+    {
         let number = usize::from(queue);
-        let Some(from) = self.submission_queue(number) else {
-            return Posted::Held;
-        };
+        let from = self.submission_queue(number)?;
         let completes_to = usize::from(from.completes_to);
-        let Some(mut to) = self.completion_queue(completes_to) else {
-            return Posted::Held;
-        };
+        let mut to = self.completion_queue(completes_to)?;
         if to.is_full() {
-            return Posted::Held;
+            return None;
         }
         let cqe = Cqe::new(dw0, from.head(), queue, cid, to.phase(), status);
-        nv_bounce::store(&cqe.bytes(), to.next(), map, host);
+        let addr = to.next();
         to.go_on();
         self.completion[completes_to] = Some(to);
         count_ended(&mut self.taken, number);
-        Posted::Done
+        Some(Posting {
+            addr,
+            entry: cqe.bytes(),
+        })
     }
 
     /// A taken command of an I/O queue runs out after a reset, without a completion: one command fewer is taken, and CSTS.RDY

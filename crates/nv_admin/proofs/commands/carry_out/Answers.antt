@@ -1,48 +1,55 @@
-use Rattle.std.proofs.Common.{Err, None, Some, subst, sym, ◌∙◌}
-use Rattle.nv_entry.specs.declared.status_code.StatusCode.TheVariants as code
+use Rattle.std.proofs.Common.{None, Some, sym, ◌∙◌}
 use Rattle.nv_mem.specs.GuestMap.{mapped}
-use Rattle.nv_model.specs.Admin.{AdminEffect}
-use Rattle.nv_model.specs.Memory.{byte_in, image}
-use Rattle.nv_admin.specs.Effect.{IsDone}
-use Rattle.nv_admin.proofs.Effects.{IsDone-left, command-alone, command-fused, command-pages, command-pointer}
+use Rattle.nv_admin.proofs.Effects.{command-alone, command-fused, command-pages, command-pointer, stored-alone, stored-fused, stored-pages, stored-pointer}
 use Rattle.nv_admin.proofs.commands.carry_out.Goals as goal
 
-pub returns-then-fuse-ne0-clause-done : goal.returns-then-fuse-ne0-clause-done
-returns-then-fuse-ne0-clause-done g c =
-    IsDone-left _ (Err code.InvalidField) c.args.vctl.now c.args.map.now.regions (byte_in (g.C.MemoryCell.bytes c.args.host.now))
-    c.host_len-known.ensures.sound.apart
-    (command-fused (mapped c.args.map.now.regions) c.args.blocks c.args.sqe.now c.args.vctl.now
-    (image c.args.map.now.regions (byte_in (g.C.MemoryCell.bytes c.args.host.now)))
-    (λ none. c.if-fuse-ne0.true (c.fuse.ensures ∙ none)))
+pub returns-then-fuse-ne0-clause-effect : goal.returns-then-fuse-ne0-clause-effect
+returns-then-fuse-ne0-clause-effect c = λ memory.
+    rw c.quiet.ensures
+    (command-fused (mapped c.args.map.now.regions) c.args.blocks c.args.sqe.now c.args.vctl.now memory (λ none. c.if-fuse-ne0.true (c.fuse.ensures ∙ none)))
 
-pub returns-in_default-clause-done : goal.returns-in_default-clause-done
-returns-in_default-clause-done g c =
-    IsDone-left _ (Err code.InvalidOpcode) c.args.vctl.now c.args.map.now.regions (byte_in (g.C.MemoryCell.bytes c.args.host.now))
-    c.host_len-known.ensures.sound.apart
-    (command-alone (mapped c.args.map.now.regions) c.args.blocks c.args.sqe.now c.args.vctl.now
-    (image c.args.map.now.regions (byte_in (g.C.MemoryCell.bytes c.args.host.now)))
-    None (sym c.fuse.ensures ∙ c.if-fuse-ne0.false) c.in_default.ensures)
+pub returns-then-fuse-ne0-clause-stored : goal.returns-then-fuse-ne0-clause-stored
+returns-then-fuse-ne0-clause-stored c =
+    rw c.quiet.ensures
+    (stored-fused (mapped c.args.map.now.regions) c.args.blocks c.args.sqe.now (λ none. c.if-fuse-ne0.true (c.fuse.ensures ∙ none)))
 
-pub returns-in_default-data_pointer-clause-done : goal.returns-in_default-data_pointer-clause-done
-returns-in_default-data_pointer-clause-done g c =
-    IsDone-left _ (Err code.InvalidField) c.args.vctl.now c.args.map.now.regions (byte_in (g.C.MemoryCell.bytes c.args.host.now))
-    c.host_len-known.ensures.sound.apart
-    (command-alone (mapped c.args.map.now.regions) c.args.blocks c.args.sqe.now c.args.vctl.now
-    (image c.args.map.now.regions (byte_in (g.C.MemoryCell.bytes c.args.host.now)))
-    (Some c.in-Some.opcode) (sym c.fuse.ensures ∙ c.if-fuse-ne0.false) c.in-Some.ensures
-    ∙ command-pointer (mapped c.args.map.now.regions) c.args.blocks c.args.sqe.now c.args.vctl.now
-    (image c.args.map.now.regions (byte_in (g.C.MemoryCell.bytes c.args.host.now)))
-    c.in-Some.opcode (λ is. c.in_default-data_pointer.not-Prp (c.data_pointer.ensures ∙ sym is)))
+pub returns-in_default-clause-effect : goal.returns-in_default-clause-effect
+returns-in_default-clause-effect c = λ memory.
+    rw c.quiet-in_default.ensures
+    (command-alone (mapped c.args.map.now.regions) c.args.blocks c.args.sqe.now c.args.vctl.now memory None
+    (sym c.fuse.ensures ∙ c.if-fuse-ne0.false) c.in_default.ensures)
 
-pub returns-clause-done : goal.returns-clause-done
-returns-clause-done g c =
-    let is =
-    command-alone (mapped c.args.map.now.regions) c.args.blocks c.args.sqe.now c.args.vctl.now
-    (image c.args.map.now.regions (byte_in (g.C.MemoryCell.bytes c.args.host.now)))
-    (Some c.in-Some.opcode) (sym c.fuse.ensures ∙ c.if-fuse-ne0.false) c.in-Some.ensures
-    ∙ command-pages (mapped c.args.map.now.regions) c.args.blocks c.args.sqe.now c.args.vctl.now
-    (image c.args.map.now.regions (byte_in (g.C.MemoryCell.bytes c.args.host.now)))
-    c.in-Some.opcode c.in-Prp.ensures in
-    subst (λ (done : AdminEffect). IsDone done c.carry_out_by.result c.carry_out_by.new.vctl c.args.map.now.regions
-    (byte_in (g.C.MemoryCell.bytes c.args.host.now)) (byte_in (g.C.MemoryCell.bytes c.carry_out_by.new.host)))
-    (sym is) c.carry_out_by.ensures.done
+pub returns-in_default-clause-stored : goal.returns-in_default-clause-stored
+returns-in_default-clause-stored c =
+    rw c.quiet-in_default.ensures
+    (stored-alone (mapped c.args.map.now.regions) c.args.blocks c.args.sqe.now None (sym c.fuse.ensures ∙ c.if-fuse-ne0.false) c.in_default.ensures)
+
+pub returns-in_default-data_pointer-clause-effect : goal.returns-in_default-data_pointer-clause-effect
+returns-in_default-data_pointer-clause-effect c = λ memory.
+    rw c.quiet-in_default-data_pointer.ensures
+    (command-alone (mapped c.args.map.now.regions) c.args.blocks c.args.sqe.now c.args.vctl.now memory (Some c.in-Some.opcode)
+    (sym c.fuse.ensures ∙ c.if-fuse-ne0.false) c.in-Some.ensures
+    ∙ command-pointer (mapped c.args.map.now.regions) c.args.blocks c.args.sqe.now c.args.vctl.now memory c.in-Some.opcode
+    (λ is. c.in_default-data_pointer.not-Prp (c.data_pointer.ensures ∙ sym is)))
+
+pub returns-in_default-data_pointer-clause-stored : goal.returns-in_default-data_pointer-clause-stored
+returns-in_default-data_pointer-clause-stored c =
+    rw c.quiet-in_default-data_pointer.ensures
+    (stored-alone (mapped c.args.map.now.regions) c.args.blocks c.args.sqe.now (Some c.in-Some.opcode) (sym c.fuse.ensures ∙ c.if-fuse-ne0.false)
+    c.in-Some.ensures
+    ∙ stored-pointer (mapped c.args.map.now.regions) c.args.blocks c.args.sqe.now c.in-Some.opcode
+    (λ is. c.in_default-data_pointer.not-Prp (c.data_pointer.ensures ∙ sym is)))
+
+pub returns-clause-effect : goal.returns-clause-effect
+returns-clause-effect c = λ memory.
+    command-alone (mapped c.args.map.now.regions) c.args.blocks c.args.sqe.now c.args.vctl.now memory (Some c.in-Some.opcode)
+    (sym c.fuse.ensures ∙ c.if-fuse-ne0.false) c.in-Some.ensures
+    ∙ command-pages (mapped c.args.map.now.regions) c.args.blocks c.args.sqe.now c.args.vctl.now memory c.in-Some.opcode c.in-Prp.ensures
+    ∙ c.carry_out_by.ensures.effect memory
+
+pub returns-clause-stored : goal.returns-clause-stored
+returns-clause-stored c =
+    stored-alone (mapped c.args.map.now.regions) c.args.blocks c.args.sqe.now (Some c.in-Some.opcode) (sym c.fuse.ensures ∙ c.if-fuse-ne0.false)
+    c.in-Some.ensures
+    ∙ stored-pages (mapped c.args.map.now.regions) c.args.blocks c.args.sqe.now c.in-Some.opcode c.in-Prp.ensures
+    ∙ c.carry_out_by.ensures.stored
