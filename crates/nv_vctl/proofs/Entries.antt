@@ -6,7 +6,7 @@ use Rattle.nv_entry.proofs.CompletionLemmas.{length-completion}
 use Rattle.nv_entry.specs.Completion.{completion}
 use Rattle.nv_entry.specs.Status.{StatusField}
 use Rattle.nv_mem.specs.declared.region.Region.{Region}
-use Rattle.nv_vctl.specs.Vctl.{CompletionsFit, host_behind, posting_of}
+use Rattle.nv_vctl.specs.Vctl.{CompletionsFit, SubmissionsFit, host_behind, posting_of}
 use Rattle.nv_vctl.specs.declared.posting.Posting.{Posting}
 use Rattle.nv_model.specs.Memory.{image, put_image, stored}
 use Rattle.nv_mem.specs.GuestMap.{IsSound, Mapping, everywhere, mapped}
@@ -97,7 +97,7 @@ mapped-end m addr len sound all some =
     omega arith
 
 -- the slots of a submission queue that lies in the map
-pub submission-fits : (m : Mapping) (c : Controller) (y : ℕ) (q : SubmissionQueue) → IsSound m → QueuesInPlace (mapped m.regions) c
+submission-fits : (m : Mapping) (c : Controller) (y : ℕ) (q : SubmissionQueue) → IsSound m → QueuesInPlace (mapped m.regions) c
     → submission_queue c y ≡ Some q → q.base + sqe_size * q.size ≤ 2 ^ 64
 submission-fits m c y q sound place is =
     let test : ℕ → Bool = mapped m.regions in
@@ -105,12 +105,30 @@ submission-fits m c y q sound place is =
     let some = has.0.at_least in
     mapped-end m q.base (sqe_size * q.size) sound has.1 (omega arith)
 
-pub submission-mapped : (test : ℕ → Bool) (c : Controller) (y : ℕ) (q : SubmissionQueue) → QueuesInPlace test c
+submission-mapped : (test : ℕ → Bool) (c : Controller) (y : ℕ) (q : SubmissionQueue) → QueuesInPlace test c
     → submission_queue c y ≡ Some q → everywhere test (q.base + sqe_size * q.head) sqe_size ≡ true
 submission-mapped test c y q place is =
     let has = submission_queue-has test (IsSubmissionInPlace test) (IsCompletionInPlace test) (IsKept-in_place test) c y q place is in
     let below = has.0.head_is_slot in
     everywhere-part test q.base (sqe_size * q.size) (sqe_size * q.head) sqe_size has.1 (omega arith)
+
+-- so the slots of all of them fit
+pub submissions-fit : (m : Mapping) (c : Controller) → IsSound m → QueuesInPlace (mapped m.regions) c → SubmissionsFit c
+submissions-fit m c sound place = λ y q is. submission-fits m c y q sound place is
+
+-- and the front entry is mapped
+pub front-mapped : (test : ℕ → Bool) (c : Controller) (y addr : ℕ) → QueuesInPlace test c → front c y ≡ Some addr → everywhere test addr sqe_size ≡ true
+front-mapped test c y addr place at = by_queue (submission_queue c y) refl
+  where
+    some : IsSome (front c y)
+    some = subst (λ (o : Option ℕ). IsSome o) (sym at) refl
+
+    by_queue : (found : Option SubmissionQueue) → submission_queue c y ≡ found → everywhere test addr sqe_size ≡ true
+    by_queue None is = absurd (front-there c y some is)
+    by_queue (Some q) is =
+        let same : Some addr ≡ Some (q.base + sqe_size * q.head) = sym at ∙ front-at c y q some is in
+        let where_it_is : addr ≡ q.base + sqe_size * q.head = cc in
+        ap (λ (n : ℕ). everywhere test n sqe_size) where_it_is ∙ submission-mapped test c y q place is
 
 -- and of a completion queue
 completion-fits : (m : Mapping) (c : Controller) (y : ℕ) (q : CompletionQueue) → IsSound m → QueuesInPlace (mapped m.regions) c

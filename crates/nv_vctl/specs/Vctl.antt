@@ -30,6 +30,10 @@ IsIoQueue queue = (0 < queue) × (queue ≤ last_queue)
 abbrev pub CompletionsFit : Controller → Type 0
 CompletionsFit c = (queue : ℕ) (q : CompletionQueue) → completion_queue c queue ≡ Some q → q.base + cqe_size * q.size ≤ 2 ^ 64
 
+-- and those of each submission queue
+abbrev pub SubmissionsFit : Controller → Type 0
+SubmissionsFit c = (queue : ℕ) (q : SubmissionQueue) → submission_queue c queue ≡ Some q → q.base + sqe_size * q.size ≤ 2 ^ 64
+
 -- ---- what is done
 
 -- the controller with that value in CC

@@ -6,7 +6,7 @@ ghost use Rattle.nv_model.specs.Admin.{is_queue_full};
 ghost use Rattle.nv_model.specs.Controller.{completion_queue, front, is_enabled, is_ready, post, ran_out, took};
 ghost use Rattle.nv_model.specs.Laws.{QueuesInPlace};
 ghost use Rattle.nv_model.specs.Memory.{byte_in, image};
-ghost use Rattle.nv_vctl.specs.Vctl.{CompletionsFit, completes_in, controller_behind, entry_at, host_behind, most_taken, posted_or_held, posting_of};
+ghost use Rattle.nv_vctl.specs.Vctl.{CompletionsFit, SubmissionsFit, completes_in, controller_behind, entry_at, host_behind, most_taken, posted_or_held, posting_of};
 ghost use Rattle.nv_vctl.specs.declared.posted.Posted.TheVariants as posted;
 
 use crate::posted::Posted;
@@ -27,15 +27,26 @@ impl Vctl {
     {
         // With the length of the host comes what is known of every map.
         let _known = map.host_len();
+        let addr = self.front(queue)?;
+        let mut entry = [0; 64];
+        nv_bounce::load(addr, map, host, &mut entry);
+        Some(Sqe::of(&entry))
+    }
+
+    /// The guest address of the command at the front of a queue, which has 64 bytes; `None` exactly where none may be taken. Queue 0 is the
+    /// admin queue.
+    ///
+    /// The caller knows that the submission queues end at 2 to the 64 at the latest, as those do that lie wholly in a map
+    /// ([`Vctl::lies_in`]).
+    pub fn front(&self, queue: u16) -> Option<u64>
+        requires { SubmissionsFit self.now }
+        ensures { result ≡ front self.now queue }
+    {
         if !self.waits(queue) {
             return None;
         }
-        let Some(found) = self.submission_queue(usize::from(queue)) else {
-            return None;
-        };
-        let mut entry = [0; 64];
-        nv_bounce::load(found.front(), map, host, &mut entry);
-        Some(Sqe::of(&entry))
+        let found = self.submission_queue(usize::from(queue))?;
+        Some(found.front())
     }
 
     /// The command at the front of a queue is taken: the head moves on, and of an I/O queue one more command is taken.

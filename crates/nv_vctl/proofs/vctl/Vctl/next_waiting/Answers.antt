@@ -1,4 +1,4 @@
-use Rattle.std.proofs.Common.{◌∙◌, ℕ, Option, true, false, is_some, arith, inl, inr, ap, sym}
+use Rattle.std.proofs.Common.{◌∙◌, ℕ, Option, is_some, arith, inl, inr, ap, sym}
 use Rattle.std.proofs.lemmas.Bool.{cases_eq}
 use Rattle.nv_model.specs.Controller.{front}
 use Rattle.nv_vctl.proofs.Entries.{front-ready, front-unready}
