@@ -209,7 +209,7 @@ ended-in lanes lane tag at (Some (Flying command share standing)) found there e 
 ended-in lanes lane tag at (Some (Ended command st share)) found there e =
     record { at = at; command = command; st = st; share = share; found = found; there = there; led = unled-none tag command e }
 
-ended-by : (lanes : List Lane) (lane tag : ℕ) (l : Option Lane) → slice_get lanes lane ≡ l → unended tag (tag_in l tag) ≡ None → IsEndedHere lanes lane tag
+pub ended-by : (lanes : List Lane) (lane tag : ℕ) (l : Option Lane) → slice_get lanes lane ≡ l → unended tag (tag_in l tag) ≡ None → IsEndedHere lanes lane tag
 ended-by lanes lane tag None found e = cc
 ended-by lanes lane tag (Some at) found e = ended-in lanes lane tag at (slice_get at.tags tag) found refl e
 

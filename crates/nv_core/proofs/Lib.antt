@@ -24,6 +24,9 @@ pub mod PartKinds
 pub mod Delivers
 pub mod PostParts
 pub mod Posts
+pub mod CallPosts
+pub mod Endings
+pub mod PostSteps
 pub mod TagLists
 pub mod LaneTags
 pub mod MarkedLanes

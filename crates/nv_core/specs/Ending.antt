@@ -1,24 +1,21 @@
 -- How a command ends in the mediator: its completions are read, and later it is delivered and completed for its guest (profile; posting:
 -- Base Specification 2.0, "Memory-based Transport Queue Model").
-use Rattle.std.specs.Prelude.{◌≡◌, ℕ, ◌<◌, ◌&&◌, Bool, true, false, if◌then◌else◌, List, [], ◌∷◌, All, Option, Some, None, slice_get, slice_index}
+use Rattle.std.specs.Prelude.{◌≡◌, ℕ, ◌<◌, ◌&&◌, Bool, true, false, if◌then◌else◌, List, [], ◌∷◌, All, Option, Some, None, slice_get}
 use Rattle.std.specs.Bool.{⊤}
 use Rattle.nv_entry.specs.Opcode.{io_opcode}
 use Rattle.nv_entry.specs.Status.{StatusField}
 use Rattle.nv_entry.specs.declared.opcode.IoOpcode.{IoOpcode}
-use Rattle.nv_entry.specs.Submission.{cid_of, opcode_of}
+use Rattle.nv_entry.specs.Submission.{opcode_of}
 use Rattle.nv_mem.specs.Bytes.{InMemory}
 use Rattle.nv_mem.specs.GuestMap.{mapped, span_met}
 use Rattle.nv_mem.specs.Places.{places_of, total_len}
 use Rattle.nv_mem.specs.declared.region.Region.{Region}
-use Rattle.nv_model.specs.Controller.{Controller, Posted, is_enabled, post, ran_out}
 use Rattle.nv_model.specs.Judge.{Work, is_read}
 use Rattle.nv_model.specs.Laws.{IsMappedPiece}
-use Rattle.nv_model.specs.Memory.{bytes_from, image, put_image, scattered, stored}
+use Rattle.nv_model.specs.Memory.{bytes_from, image, put_image, scattered}
 use Rattle.nv_plan.specs.Outline.{kind_of}
 use Rattle.nv_plan.specs.declared.kind.PlanKind.{PlanKind}
 use Rattle.nv_plan.specs.declared.kind.PlanKind.TheVariants as kind
-use Rattle.nv_vctl.specs.declared.posted.Posted.{Posted as Became}
-use Rattle.nv_vctl.specs.declared.posted.Posted.TheVariants as became
 use Rattle.nv_world_model.specs.Area.{bounce_page}
 use Rattle.nv_world_model.specs.Plan.{Answer, Bounced, Direct, NoData, Plan}
 use Rattle.nv_world_model.specs.Share.{Share}
@@ -133,33 +130,3 @@ pub record AreParts (entry : List ℕ) (mediator lane tag : ℕ) (l : Lane) (hos
   pub others : List ℕ
   pub group : group_in (Some l) tag ≡ tag ∷ others
   pub parts : All (λ t. IsPart plan_kind entry (bounce_page mediator lane t) host_bytes regions (slice_get l.tags t)) (tag ∷ others)
-
--- ---- what is completed
-
--- what became of a completion in a guest's seat: whether it is posted, the host and the controller
-pub record Settled : Type 0 where
-  pub became : Became
-  pub host : ℕ → ℕ
-  pub controller : Controller
-
--- the completion after what was delivered; where there is no room, nothing is delivered either
-abbrev pub settled_by : Option Posted → (delivered : ℕ → ℕ) → List Region → (host : ℕ → ℕ) → Controller → Settled
-settled_by None delivered regions host c = record { became = became.Held; host = host; controller = c }
-settled_by (Some posted) delivered regions host c =
-    record {
-      became = became.Done;
-      host = put_image regions (stored (image regions delivered) posted.addr posted.entry) delivered;
-      controller = posted.controller;
-    }
-
--- a command that has ended with that status is completed where the controller is enabled, and runs out where it is not
-abbrev pub settled : Command → StatusField → (delivered : ℕ → ℕ) → List Region → (host : ℕ → ℕ) → Controller → Settled
-settled command st delivered regions host c =
-    if is_enabled c
-    then settled_by (post c command.queue 0 (cid_of command.entry) st) delivered regions host c
-    else record { became = became.Done; host = delivered; controller = ran_out c command.queue }
-
--- a command that has ended is one of an I/O queue that its controller counts
-pub record MaySettle (command : Command) (c : Controller) : Type 0 where
-  pub io_queue : 0 < command.queue
-  pub taken : 0 < slice_index c.taken command.queue

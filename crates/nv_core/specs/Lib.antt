@@ -14,6 +14,7 @@ pub mod Handing
 pub mod Seat
 pub mod Answers
 pub mod Ending
+pub mod Completing
 pub mod Submit
 pub mod Jobs
 pub mod Shown

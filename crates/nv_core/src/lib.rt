@@ -30,6 +30,7 @@ mod acting;
 mod administering;
 mod area;
 mod comparing;
+mod completing;
 mod delegating;
 mod device_events;
 mod due;
@@ -67,6 +68,7 @@ mod tagged;
 mod taking;
 mod writing;
 
+pub use completing::Completion;
 pub use front::Front;
 pub use holding::Holder;
 pub use layout::{Grant, Layout};

@@ -1,8 +1,9 @@
 //! Commands that have ended, completed for their guests.
 
-ghost use Rattle.std.specs.Prelude.{◌≡◌, ◌∷◌, ◌<◌, List, ℕ, Option, Some, length, slice_get, true};
-ghost use Rattle.nv_core.specs.Ending.{AreParts, AreReadParts, IsBouncedRead, IsEnded, IsReadPart, MaySettle};
-ghost use Rattle.nv_core.specs.Ending.{delivered_host, delivers, is_bounced, is_read_of, part_delivered, settled, tag_delivered, tags_delivered};
+ghost use Rattle.std.specs.Prelude.{◌≡◌, ◌∷◌, ◌<◌, IfSome, List, ℕ, Option, Some, length, slice_get, true};
+ghost use Rattle.nv_core.specs.Completing.{completion_stored};
+ghost use Rattle.nv_core.specs.Ending.{AreParts, AreReadParts, IsBouncedRead, IsEnded, IsReadPart};
+ghost use Rattle.nv_core.specs.Ending.{delivered_host, delivers, is_bounced, is_read_of, part_delivered, tag_delivered, tags_delivered};
 ghost use Rattle.nv_core.specs.Front.{IsSideOf, IsSideStep};
 ghost use Rattle.nv_core.specs.Kept.{IsLent};
 ghost use Rattle.nv_core.specs.Submit.{IsPlaced};
@@ -10,8 +11,7 @@ ghost use Rattle.nv_entry.specs.Opcode.{io_opcode};
 ghost use Rattle.nv_entry.specs.Status.{StatusField};
 ghost use Rattle.nv_entry.specs.Submission.{opcode_of};
 ghost use Rattle.nv_laws_sound.specs.Counted.{IsCounted};
-ghost use Rattle.nv_mem.specs.GuestMap.{mapped};
-ghost use Rattle.nv_model.specs.Laws.{QueuesInPlace};
+ghost use Rattle.nv_mem.specs.GuestMap.{everywhere, mapped};
 ghost use Rattle.nv_model.specs.Memory.{byte_in};
 ghost use Rattle.nv_plan.specs.Made.{share_made, shares_made};
 ghost use Rattle.nv_world_model.specs.Area.{bounce_page};
@@ -20,15 +20,14 @@ ghost use Rattle.nv_world_model.specs.Step.{is_success};
 ghost use Rattle.nv_world_model.specs.World.{Command, Ended, World, group_in};
 
 use crate::area::TagPlace;
+use crate::completing::Completion;
 use crate::front::Front;
 use crate::lane::Lane;
 use crate::layout::Layout;
-use crate::noting::noted;
 use nv_entry::{IoOpcode, Sqe, Status};
 use nv_mem::{GuestMap, MemoryCell};
 use nv_model::Reply;
 use nv_plan::{Plan, PlanKind};
-use nv_vctl::{Posted, Vctl};
 use nv_world_model::Event;
 
 impl Front {
@@ -36,6 +35,8 @@ impl Front {
     /// bounced Read that succeeded reach the guest first. Where the guest has reset its controller meanwhile, the command runs out without a
     /// completion. Held, with nothing changed, where the guest's completion queue is full; Stale where some part has not ended, or the tag is
     /// none that a command goes by; Ignored where there is no such tag.
+    ///
+    /// The decision and the mediator's side of it are those of [`Front::complete`].
     ///
     /// The caller knows that each guest's controller counts the guest's commands, as it does in every world that events lead to.
     #[inline(never)]
@@ -52,18 +53,14 @@ impl Front {
         ensures tails { self.new.tails ≡ self.old.tails }
         ensures len { length (C.bytes host.new) ≡ length (C.bytes host.old) }
     {
-        if let Some(reply) = self.unended(lane, tag) {
-            return reply;
-        }
-        let at = usize::from(lane);
-        let ring = &self.lanes[at];
-        let guest = ring.ended(tag).guest;
-        let Some(given) = layout.guest(guest) else {
-            return Reply::Stale;
+        let ending = match self.ending(layout, lane, tag) {
+            Ok(ending) => ending,
+            Err(reply) => return reply,
         };
-        let Some(status) = ring.outcome(tag) else {
-            return Reply::Stale;
+        let Some(given) = layout.guest(ending.guest) else {
+            unreachable!()
         };
+        let map = given.map();
         // The end of the host fits in 64 bits.
         let _known = C::len(host);
         let place = TagPlace {
@@ -71,57 +68,24 @@ impl Front {
             lane,
             tag,
         };
-        self.noted = noted(self.noted, guest);
-        let vctl = &mut self.controllers[usize::from(guest)];
-        match settle(place, status, given.map(), ring, vctl, host) {
-            Posted::Held => Reply::Held,
-            Posted::Done => {
-                self.lanes[at].release(tag);
-                Reply::Done
-            }
-        }
+        let ring = &self.lanes[usize::from(lane)];
+        deliver(place, ending.status, map, ring, host);
+        let completion = self.finish(lane, tag, ending);
+        store(completion, map, host);
+        Reply::Done
     }
 }
 
-// A command that has ended is delivered and completed in its guest's seat, or runs out there.
-fn settle<C: MemoryCell>(
-    place: TagPlace,
-    status: Status,
-    map: &GuestMap,
-    ring: &Lane,
-    vctl: &mut Vctl,
-    host: &mut [C],
-) -> Posted
-    requires placed { IsPlaced place.mediator place.lane place.tag }
-    requires ended { IsEnded (slice_get ring.now.tags place.tag) }
-    requires led { (command : Command) (st : StatusField) (share : Option Share) →
-        slice_get ring.now.tags place.tag ≡ Some (Ended command st share) → command.leader ≡ place.tag }
-    requires may { (command : Command) (st : StatusField) (share : Option Share) →
-        slice_get ring.now.tags place.tag ≡ Some (Ended command st share) → MaySettle command vctl.old }
-    requires parts { (command : Command) (st : StatusField) (share : Option Share) →
-        slice_get ring.now.tags place.tag ≡ Some (Ended command st share) → is_success status ≡ true →
-        AreParts command.entry place.mediator place.lane place.tag ring.now (length (C.bytes host.old)) map.now.regions }
+// A completion is stored in its guest's memory, where there is one.
+fn store<C: MemoryCell>(completion: Option<Completion>, map: &GuestMap, host: &mut [C])
     requires host { map.now.host_len ≡ length (C.bytes host.old) }
-    requires in_place { QueuesInPlace (mapped map.now.regions) vctl.old }
-    ensures settled { (command : Command) (st : StatusField) (share : Option Share) →
-        slice_get ring.now.tags place.tag ≡ Some (Ended command st share) →
-        record { became = result; host = byte_in (C.bytes host.new); controller = vctl.new }
-        ≡ settled command status
-        (delivered_host status place.mediator place.lane (group_in (Some ring.now) place.tag) ring.now map.now.regions (byte_in (C.bytes host.old)))
-        map.now.regions (byte_in (C.bytes host.old)) vctl.old }
+    requires mapped { IfSome completion (λ c. everywhere (mapped map.now.regions) c.posting.addr (length c.posting.entry) ≡ true) }
+    ensures bytes { byte_in (C.bytes host.new) ≡ completion_stored completion map.now.regions (byte_in (C.bytes host.old)) }
     ensures len { length (C.bytes host.new) ≡ length (C.bytes host.old) }
 {
-    let claim = ring.ended(place.tag);
-    if !vctl.is_enabled() {
-        deliver(place, status, map, ring, host);
-        vctl.ran_out(claim.queue);
-        return Posted::Done;
+    if let Some(Completion { posting, .. }) = completion {
+        nv_bounce::store(&posting.entry, posting.addr, map, host);
     }
-    if !vctl.has_room(claim.queue) {
-        return Posted::Held;
-    }
-    deliver(place, status, map, ring, host);
-    vctl.post_cqe(claim.queue, 0, claim.entry.cid(), status, map, host)
 }
 
 // The bytes of a bounced Read that succeeded reach the guest, part by part, and in each place by place in order; nothing does of any other

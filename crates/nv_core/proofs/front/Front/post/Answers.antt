@@ -1,296 +1,144 @@
-use Rattle.std.proofs.Common.{◌∙◌, ◌<◌, ◌^◌, Some, length, ap, sym, arith, ◌≡◌, ℕ, List, refl, set, subst}
-use Rattle.nv_core.specs.Noted.{AreNoted}
-use Rattle.nv_core.proofs.Notes.{noted-set}
-use Rattle.nv_core.proofs.GroupWorlds.{ended-below, ended-here, ended-is, ended-led, ended-there}
-use Rattle.nv_core.proofs.Placed.{made-for}
-use Rattle.nv_core.proofs.Posts.{has-controller, may-settle, post-done, post-early, post-held, post-nobody, post-not, post-parts, post-placed}
-use Rattle.nv_core.proofs.Posts.{queues-there, same-lane}
-use Rattle.nv_core.specs.Groups.{tags_changed}
-use Rattle.nv_core.specs.State.{State}
-use Rattle.nv_world_model.specs.World.{Command, Free, Lane, group_in, World}
-use Rattle.nv_core.specs.Front.{IsSideOf}
+use Rattle.std.proofs.Common.{◌∙◌, ◌<◌, ◌^◌, ◌≡◌, ℕ, List, Option, Some, IfSome, length, get_or, slice_get, true, arith, refl, ap, sym, subst}
+use Rattle.std.proofs.lemmas.Option.{slice_get_within}
+use Rattle.nv_core.proofs.Endings.{counted-with, ending-counted}
+use Rattle.nv_core.proofs.GroupWorlds.{looked-up}
+use Rattle.nv_core.proofs.PostSteps.{answered-step}
+use Rattle.nv_core.proofs.Posts.{ending-mapped, ending-parts, ending-placed, ending-step}
+use Rattle.nv_core.specs.Completing.{completion_stored}
+use Rattle.nv_core.specs.Ending.{AreParts, delivered_host}
+use Rattle.nv_core.specs.Front.{IsSideStep}
+use Rattle.nv_core.specs.declared.completing.Completion.{Completion}
+use Rattle.nv_laws_sound.proofs.Lists.{some-same}
 use Rattle.nv_laws_sound.specs.Side.{Side}
-use Rattle.nv_core.proofs.KeptStates.{IsKeptOf}
-use Rattle.nv_core.proofs.Sides.{counted-side, of-side, own-side, own-world, quiet-in, state_in}
+use Rattle.nv_mem.specs.GuestMap.{Mapping, everywhere, mapped}
+use Rattle.nv_model.specs.Memory.{byte_in}
+use Rattle.nv_model.specs.declared.reply.Reply.TheVariants as reply
+use Rattle.nv_world_model.specs.World.{Command, Ended, Lane, group_in}
 use Rattle.nv_world_model.specs.declared.event.Event.TheVariants as event
 use Rattle.nv_core.proofs.front.Front.post.Goals as goal
 
-pub returns-in-Some-clause-step : goal.returns-in-Some-clause-step
-returns-in-Some-clause-step g c = λ w is.
-    let m : List ℕ = g.C.MemoryCell.bytes c.args.host.now in
-    let old : State = state_in c.args.layout.now c.args.self.now m w is in
-    quiet-in c.args.layout.now c.args.self.now m w is (event.Post c.args.lane c.args.tag) tt _ c.args.self.now m refl
-    (post-not c.args.layout.now old old c.args.lane c.args.tag c.unended.result c.in-Some.reply c.unended.ensures c.in-Some.is)
+pub returns-in-Err-clause-step : goal.returns-in-Err-clause-step
+returns-in-Err-clause-step g c =
+    answered-step c.args.layout.now c.args.lane c.args.tag c.args.self.now (g.C.MemoryCell.bytes c.args.host.now) c.in-Err.reply c.in-Err.ensures.ending
 
 pub index-ring-requires : goal.index-ring-requires
 index-ring-requires g c =
-    let m : List ℕ = g.C.MemoryCell.bytes c.args.host.now in
-    let w : World = own-world c.args.self.now m in
-    let is : IsSideOf c.args.self.now m w = own-side c.args.self.now m in
-    let old : State = state_in c.args.layout.now c.args.self.now m w is in
-    let s : State = record { host = m; device = old.device; lanes = c.self.inside.lanes.items; controllers = c.self.inside.controllers.items } in
-    let same : s ≡ old = ap (λ (f : Side). let o : State = record { host = m; device = old.device; lanes = f.lanes; controllers = f.controllers } in o) c.self.view_is in
-    let t = ended-here s old c.args.lane c.args.tag c.unended.result same c.unended.ensures c.in_default.is in
-    let below = ended-below c.self.inside.lanes.items c.args.lane c.args.tag t in
-    let number = c.from-at.ensures in omega arith
+    let below = slice_get_within c.args.self.now.lanes c.args.lane c.in-Ok.ensures.ending.at c.in-Ok.ensures.ending.found in
+    let many : length c.self.inside.lanes.items ≡ length c.args.self.now.lanes = ap (λ (f : Side). length f.lanes) c.self.view_is in
+    let at = c.from.ensures in omega arith
 
-pub ended-requires : goal.ended-requires
-ended-requires g c =
-    let m : List ℕ = g.C.MemoryCell.bytes c.args.host.now in
-    let w : World = own-world c.args.self.now m in
-    let is : IsSideOf c.args.self.now m w = own-side c.args.self.now m in
-    let old : State = state_in c.args.layout.now c.args.self.now m w is in
-    let s : State = record { host = m; device = old.device; lanes = c.self.inside.lanes.items; controllers = c.self.inside.controllers.items } in
-    let same : s ≡ old = ap (λ (f : Side). let o : State = record { host = m; device = old.device; lanes = f.lanes; controllers = f.controllers } in o) c.self.view_is in
-    let t = ended-here s old c.args.lane c.args.tag c.unended.result same c.unended.ensures c.in_default.is in
-    ended-is c.self.inside.lanes.items c.args.lane c.args.tag t c.from-at.result c.index-ring.result.now c.from-at.ensures c.index-ring.ensures
+pub deliver-requires-clause-placed : goal.deliver-requires-clause-placed
+deliver-requires-clause-placed g c =
+    let e = c.in-Ok.ending in
+    let is = c.in-Ok.ensures.ending in
+    let s = c.args.self.now in
+    let fits : length (g.C.MemoryCell.bytes c.args.host.now) < 2 ^ 64 = (let size = c.len-known.ensures in let few = c.len-known.type_inv in omega (arith, size, few)) in
+    ending-placed c.args.layout.now s c.args.lane c.args.tag e is c.in-Some.given.now c.in-Some.ensures
+    (length (g.C.MemoryCell.bytes c.args.host.now)) c.mediator.result c.requires.lent.laid_out c.mediator.ensures fits c.requires.lent.kept
 
-pub returns-in_default-guest-clause-step : goal.returns-in_default-guest-clause-step
-returns-in_default-guest-clause-step g c = λ w is.
-    let m : List ℕ = g.C.MemoryCell.bytes c.args.host.now in
-    let old : State = state_in c.args.layout.now c.args.self.now m w is in
-    let s : State = record { host = m; device = old.device; lanes = c.self.inside.lanes.items; controllers = c.self.inside.controllers.items } in
-    let same : s ≡ old = ap (λ (f : Side). let o : State = record { host = m; device = old.device; lanes = f.lanes; controllers = f.controllers } in o) c.self.view_is in
-    let of : IsKeptOf c.args.layout.now old = of-side c.args.layout.now c.args.self.now m w is c.requires.lent in
-    let t = ended-here s old c.args.lane c.args.tag c.unended.result same c.unended.ensures c.in_default.is in
-    let guest = ap (λ (d : Command). d.guest)
-    (c.ended.ensures t.command t.st t.share (ended-there c.self.inside.lanes.items c.args.lane c.args.tag t c.from-at.result c.index-ring.result.now c.from-at.ensures c.index-ring.ensures)) in
-    quiet-in c.args.layout.now c.args.self.now m w is (event.Post c.args.lane c.args.tag) tt _ c.args.self.now m refl
-    (post-nobody c.args.layout.now s old c.args.lane c.args.tag same of t
-    c.from-at.result c.index-ring.result.now c.from-at.ensures c.index-ring.ensures
-    c.ended.result.now.guest guest c.in_default-guest.ensures)
+pub deliver-requires-clause-ended : goal.deliver-requires-clause-ended
+deliver-requires-clause-ended g c =
+    let e = c.in-Ok.ending in
+    let is = c.in-Ok.ensures.ending in
+    let s = c.args.self.now in
+    let l = c.index-ring.result.now in
+    let found : slice_get s.lanes c.args.lane ≡ Some l =
+    looked-up s.lanes c.args.lane c.from.result l c.from.ensures
+    (let below = slice_get_within s.lanes c.args.lane is.at is.found in let at = c.from.ensures in omega arith)
+    (c.index-ring.ensures ∙ ap (λ (f : Side). get_or f.lanes c.from.result l) c.self.view_is) in
+    let one : l ≡ is.at = some-same l is.at (sym found ∙ is.found) in
+    record {
+      command = is.command;
+      status = is.first;
+      share = is.share;
+      is = ap (λ (x : Lane). slice_get x.tags c.args.tag) one ∙ is.there;
+    }
 
-pub outcome-requires-clause-ended : goal.outcome-requires-clause-ended
-outcome-requires-clause-ended g c =
-    let m : List ℕ = g.C.MemoryCell.bytes c.args.host.now in
-    let w : World = own-world c.args.self.now m in
-    let is : IsSideOf c.args.self.now m w = own-side c.args.self.now m in
-    let old : State = state_in c.args.layout.now c.args.self.now m w is in
-    let s : State = record { host = m; device = old.device; lanes = c.self.inside.lanes.items; controllers = c.self.inside.controllers.items } in
-    let same : s ≡ old = ap (λ (f : Side). let o : State = record { host = m; device = old.device; lanes = f.lanes; controllers = f.controllers } in o) c.self.view_is in
-    let t = ended-here s old c.args.lane c.args.tag c.unended.result same c.unended.ensures c.in_default.is in
-    ended-is c.self.inside.lanes.items c.args.lane c.args.tag t c.from-at.result c.index-ring.result.now c.from-at.ensures c.index-ring.ensures
+pub deliver-requires-clause-led : goal.deliver-requires-clause-led
+deliver-requires-clause-led g c = λ command st share there.
+    let e = c.in-Ok.ending in
+    let is = c.in-Ok.ensures.ending in
+    let s = c.args.self.now in
+    let l = c.index-ring.result.now in
+    let found : slice_get s.lanes c.args.lane ≡ Some l =
+    looked-up s.lanes c.args.lane c.from.result l c.from.ensures
+    (let below = slice_get_within s.lanes c.args.lane is.at is.found in let at = c.from.ensures in omega arith)
+    (c.index-ring.ensures ∙ ap (λ (f : Side). get_or f.lanes c.from.result l) c.self.view_is) in
+    let one : l ≡ is.at = some-same l is.at (sym found ∙ is.found) in
+    let both = some-same (Ended is.command is.first is.share) (Ended command st share) (sym is.there ∙ ap (λ (x : Lane). slice_get x.tags c.args.tag) (sym one) ∙ there) in
+    let same : is.command ≡ command = cc in
+    ap (λ (d : Command). d.leader) (sym same) ∙ is.led
 
-pub outcome-requires-clause-led : goal.outcome-requires-clause-led
-outcome-requires-clause-led g c =
-    let m : List ℕ = g.C.MemoryCell.bytes c.args.host.now in
-    let w : World = own-world c.args.self.now m in
-    let is : IsSideOf c.args.self.now m w = own-side c.args.self.now m in
-    let old : State = state_in c.args.layout.now c.args.self.now m w is in
-    let s : State = record { host = m; device = old.device; lanes = c.self.inside.lanes.items; controllers = c.self.inside.controllers.items } in
-    let same : s ≡ old = ap (λ (f : Side). let o : State = record { host = m; device = old.device; lanes = f.lanes; controllers = f.controllers } in o) c.self.view_is in
-    let t = ended-here s old c.args.lane c.args.tag c.unended.result same c.unended.ensures c.in_default.is in
-    ended-led c.self.inside.lanes.items c.args.lane c.args.tag t c.from-at.result c.index-ring.result.now c.from-at.ensures c.index-ring.ensures
+pub deliver-requires-clause-parts : goal.deliver-requires-clause-parts
+deliver-requires-clause-parts g c = λ command st share there went.
+    let e = c.in-Ok.ending in
+    let is = c.in-Ok.ensures.ending in
+    let s = c.args.self.now in
+    let l = c.index-ring.result.now in
+    let found : slice_get s.lanes c.args.lane ≡ Some l =
+    looked-up s.lanes c.args.lane c.from.result l c.from.ensures
+    (let below = slice_get_within s.lanes c.args.lane is.at is.found in let at = c.from.ensures in omega arith)
+    (c.index-ring.ensures ∙ ap (λ (f : Side). get_or f.lanes c.from.result l) c.self.view_is) in
+    let one : l ≡ is.at = some-same l is.at (sym found ∙ is.found) in
+    let m = length (g.C.MemoryCell.bytes c.args.host.now) in
+    let both = some-same (Ended is.command is.first is.share) (Ended command st share) (sym is.there ∙ ap (λ (x : Lane). slice_get x.tags c.args.tag) (sym one) ∙ there) in
+    let same : is.command ≡ command = cc in
+    subst (λ (k : Mapping). AreParts command.entry c.mediator.result c.args.lane c.args.tag l m k.regions) (sym c.map-map.ensures)
+    (subst (λ (a : ℕ). AreParts command.entry a c.args.lane c.args.tag l m c.in-Some.given.now.memory_map.regions) (sym c.mediator.ensures)
+    (subst (λ (x : Lane). AreParts command.entry c.args.layout.now.mediator c.args.lane c.args.tag x m c.in-Some.given.now.memory_map.regions) (sym one)
+    (subst (λ (d : Command). AreParts d.entry c.args.layout.now.mediator c.args.lane c.args.tag is.at m c.in-Some.given.now.memory_map.regions) same
+    (ending-parts c.args.layout.now s c.args.lane c.args.tag e is c.in-Some.given.now c.in-Some.ensures m c.requires.lent.laid_out c.requires.lent.kept went))))
 
-pub returns-in_default-outcome-clause-step : goal.returns-in_default-outcome-clause-step
-returns-in_default-outcome-clause-step g c = λ w is.
-    let m : List ℕ = g.C.MemoryCell.bytes c.args.host.now in
-    let old : State = state_in c.args.layout.now c.args.self.now m w is in
-    let s : State = record { host = m; device = old.device; lanes = c.self.inside.lanes.items; controllers = c.self.inside.controllers.items } in
-    let same : s ≡ old = ap (λ (f : Side). let o : State = record { host = m; device = old.device; lanes = f.lanes; controllers = f.controllers } in o) c.self.view_is in
-    let of : IsKeptOf c.args.layout.now old = of-side c.args.layout.now c.args.self.now m w is c.requires.lent in
-    let t = ended-here s old c.args.lane c.args.tag c.unended.result same c.unended.ensures c.in_default.is in
-    quiet-in c.args.layout.now c.args.self.now m w is (event.Post c.args.lane c.args.tag) tt _ c.args.self.now m refl
-    (post-early c.args.layout.now s old c.args.lane c.args.tag same of t
-    c.from-at.result c.index-ring.result.now c.from-at.ensures c.index-ring.ensures
-    c.outcome.result c.outcome.ensures c.in_default-outcome.is)
+pub deliver-requires-clause-host : goal.deliver-requires-clause-host
+deliver-requires-clause-host g c =
+    ap (λ (k : Mapping). k.host_len) c.map-map.ensures ∙ (c.requires.lent.laid_out.given c.in-Ok.ending.guest c.in-Some.given.now c.in-Some.ensures).host
 
-pub index_mut-vctl-requires : goal.index_mut-vctl-requires
-index_mut-vctl-requires g c =
-    let m : List ℕ = g.C.MemoryCell.bytes c.args.host.now in
-    let w : World = own-world c.args.self.now m in
-    let is : IsSideOf c.args.self.now m w = own-side c.args.self.now m in
-    let old : State = state_in c.args.layout.now c.args.self.now m w is in
-    let s : State = record { host = m; device = old.device; lanes = c.self.inside.lanes.items; controllers = c.self.inside.controllers.items } in
-    let same : s ≡ old = ap (λ (f : Side). let o : State = record { host = m; device = old.device; lanes = f.lanes; controllers = f.controllers } in o) c.self.view_is in
-    let of : IsKeptOf c.args.layout.now old = of-side c.args.layout.now c.args.self.now m w is c.requires.lent in
-    let t = ended-here s old c.args.lane c.args.tag c.unended.result same c.unended.ensures c.in_default.is in
-    let guest = ap (λ (d : Command). d.guest)
-    (c.ended.ensures t.command t.st t.share (ended-there c.self.inside.lanes.items c.args.lane c.args.tag t c.from-at.result c.index-ring.result.now c.from-at.ensures c.index-ring.ensures)) in
-    let below = has-controller c.args.layout.now s old c.args.lane c.args.tag same of t
-    c.from-at.result c.index-ring.result.now c.from-at.ensures c.index-ring.ensures
-    c.ended.result.now.guest c.in-Some-guest.given.now guest c.in-Some-guest.ensures in
-    let number = c.from.ensures in omega arith
+pub finish-completion-requires-clause-counted : goal.finish-completion-requires-clause-counted
+finish-completion-requires-clause-counted g c =
+    let e = c.in-Ok.ending in
+    let is = c.in-Ok.ensures.ending in
+    let s = c.args.self.now in
+    ending-counted c.args.layout.now s c.args.lane c.args.tag e is c.in-Some.given.now c.in-Some.ensures c.requires.lent.kept
+    (counted-with c.args.layout.now s (g.C.MemoryCell.bytes c.args.host.now) c.requires.counted)
 
-pub settle-requires-clause-placed : goal.settle-requires-clause-placed
-settle-requires-clause-placed g c =
-    let m : List ℕ = g.C.MemoryCell.bytes c.args.host.now in
-    let w : World = own-world c.args.self.now m in
-    let is : IsSideOf c.args.self.now m w = own-side c.args.self.now m in
-    let old : State = state_in c.args.layout.now c.args.self.now m w is in
-    let s : State = record { host = m; device = old.device; lanes = c.self.inside.lanes.items; controllers = c.self.inside.controllers.items } in
-    let same : s ≡ old = ap (λ (f : Side). let o : State = record { host = m; device = old.device; lanes = f.lanes; controllers = f.controllers } in o) c.self.view_is in
-    let of : IsKeptOf c.args.layout.now old = of-side c.args.layout.now c.args.self.now m w is c.requires.lent in
-    let t = ended-here s old c.args.lane c.args.tag c.unended.result same c.unended.ensures c.in_default.is in
-    let fits : length s.host < 2 ^ 64 = (let size = c.len-known.ensures in let few = c.len-known.type_inv in omega (arith, size, few)) in
-    post-placed c.args.layout.now s old c.args.lane c.args.tag same of t
-    c.from-at.result c.index-ring.result.now c.from-at.ensures c.index-ring.ensures c.mediator.result c.mediator.ensures fits
+pub store-requires-clause-host : goal.store-requires-clause-host
+store-requires-clause-host g c =
+    ap (λ (k : Mapping). k.host_len) c.map-map.ensures ∙ (c.requires.lent.laid_out.given c.in-Ok.ending.guest c.in-Some.given.now c.in-Some.ensures).host
+    ∙ sym c.deliver.ensures.len
 
-pub settle-requires-clause-ended : goal.settle-requires-clause-ended
-settle-requires-clause-ended g c =
-    let m : List ℕ = g.C.MemoryCell.bytes c.args.host.now in
-    let w : World = own-world c.args.self.now m in
-    let is : IsSideOf c.args.self.now m w = own-side c.args.self.now m in
-    let old : State = state_in c.args.layout.now c.args.self.now m w is in
-    let s : State = record { host = m; device = old.device; lanes = c.self.inside.lanes.items; controllers = c.self.inside.controllers.items } in
-    let same : s ≡ old = ap (λ (f : Side). let o : State = record { host = m; device = old.device; lanes = f.lanes; controllers = f.controllers } in o) c.self.view_is in
-    let t = ended-here s old c.args.lane c.args.tag c.unended.result same c.unended.ensures c.in_default.is in
-    ended-is c.self.inside.lanes.items c.args.lane c.args.tag t c.from-at.result c.index-ring.result.now c.from-at.ensures c.index-ring.ensures
+pub store-requires-clause-mapped : goal.store-requires-clause-mapped
+store-requires-clause-mapped g c =
+    let e = c.in-Ok.ending in
+    let is = c.in-Ok.ensures.ending in
+    let s = c.args.self.now in
+    subst (λ (k : Mapping). IfSome c.finish-completion.result (λ x. everywhere (mapped k.regions) x.posting.addr (length x.posting.entry) ≡ true)) (sym c.map-map.ensures)
+    (ending-mapped c.args.layout.now s c.args.lane c.args.tag e is c.in-Some.given.now c.in-Some.ensures c.finish-completion.result c.requires.lent.kept
+    (c.finish-completion.ensures.completion is))
 
-pub settle-requires-clause-led : goal.settle-requires-clause-led
-settle-requires-clause-led g c =
-    let m : List ℕ = g.C.MemoryCell.bytes c.args.host.now in
-    let w : World = own-world c.args.self.now m in
-    let is : IsSideOf c.args.self.now m w = own-side c.args.self.now m in
-    let old : State = state_in c.args.layout.now c.args.self.now m w is in
-    let s : State = record { host = m; device = old.device; lanes = c.self.inside.lanes.items; controllers = c.self.inside.controllers.items } in
-    let same : s ≡ old = ap (λ (f : Side). let o : State = record { host = m; device = old.device; lanes = f.lanes; controllers = f.controllers } in o) c.self.view_is in
-    let t = ended-here s old c.args.lane c.args.tag c.unended.result same c.unended.ensures c.in_default.is in
-    ended-led c.self.inside.lanes.items c.args.lane c.args.tag t c.from-at.result c.index-ring.result.now c.from-at.ensures c.index-ring.ensures
-
-pub settle-requires-clause-may : goal.settle-requires-clause-may
-settle-requires-clause-may g c =
-    let m : List ℕ = g.C.MemoryCell.bytes c.args.host.now in
-    let w : World = own-world c.args.self.now m in
-    let is : IsSideOf c.args.self.now m w = own-side c.args.self.now m in
-    let old : State = state_in c.args.layout.now c.args.self.now m w is in
-    let s : State = record { host = m; device = old.device; lanes = c.self.inside.lanes.items; controllers = c.self.inside.controllers.items } in
-    let same : s ≡ old = ap (λ (f : Side). let o : State = record { host = m; device = old.device; lanes = f.lanes; controllers = f.controllers } in o) c.self.view_is in
-    let of : IsKeptOf c.args.layout.now old = of-side c.args.layout.now c.args.self.now m w is c.requires.lent in
-    let t = ended-here s old c.args.lane c.args.tag c.unended.result same c.unended.ensures c.in_default.is in
-    let guest = ap (λ (d : Command). d.guest)
-    (c.ended.ensures t.command t.st t.share (ended-there c.self.inside.lanes.items c.args.lane c.args.tag t c.from-at.result c.index-ring.result.now c.from-at.ensures c.index-ring.ensures)) in
-    may-settle c.args.layout.now s old c.args.lane c.args.tag same of t
-    c.from-at.result c.index-ring.result.now c.from-at.ensures c.index-ring.ensures
-    c.ended.result.now.guest c.in-Some-guest.given.now guest c.in-Some-guest.ensures
-    c.from.result c.index_mut-vctl.result.now c.from.ensures c.index_mut-vctl.ensures.value (counted-side c.args.layout.now c.args.self.now m w is (c.requires.counted w is))
-
-pub settle-requires-clause-parts : goal.settle-requires-clause-parts
-settle-requires-clause-parts g c =
-    let m : List ℕ = g.C.MemoryCell.bytes c.args.host.now in
-    let w : World = own-world c.args.self.now m in
-    let is : IsSideOf c.args.self.now m w = own-side c.args.self.now m in
-    let old : State = state_in c.args.layout.now c.args.self.now m w is in
-    let s : State = record { host = m; device = old.device; lanes = c.self.inside.lanes.items; controllers = c.self.inside.controllers.items } in
-    let same : s ≡ old = ap (λ (f : Side). let o : State = record { host = m; device = old.device; lanes = f.lanes; controllers = f.controllers } in o) c.self.view_is in
-    let of : IsKeptOf c.args.layout.now old = of-side c.args.layout.now c.args.self.now m w is c.requires.lent in
-    let t = ended-here s old c.args.lane c.args.tag c.unended.result same c.unended.ensures c.in_default.is in
-    let guest = ap (λ (d : Command). d.guest)
-    (c.ended.ensures t.command t.st t.share (ended-there c.self.inside.lanes.items c.args.lane c.args.tag t c.from-at.result c.index-ring.result.now c.from-at.ensures c.index-ring.ensures)) in
-    post-parts c.args.layout.now s old c.args.lane c.args.tag same of t
-    c.from-at.result c.index-ring.result.now c.from-at.ensures c.index-ring.ensures
-    c.ended.result.now.guest c.in-Some-guest.given.now guest c.in-Some-guest.ensures
-    c.mediator.result c.map.result.now c.outcome.result c.in-Some-outcome.status c.mediator.ensures c.map.ensures c.outcome.ensures c.in-Some-outcome.is
-
-pub settle-requires-clause-host : goal.settle-requires-clause-host
-settle-requires-clause-host g c =
-    let m : List ℕ = g.C.MemoryCell.bytes c.args.host.now in
-    let w : World = own-world c.args.self.now m in
-    let is : IsSideOf c.args.self.now m w = own-side c.args.self.now m in
-    let old : State = state_in c.args.layout.now c.args.self.now m w is in
-    let s : State = record { host = m; device = old.device; lanes = c.self.inside.lanes.items; controllers = c.self.inside.controllers.items } in
-    let same : s ≡ old = ap (λ (f : Side). let o : State = record { host = m; device = old.device; lanes = f.lanes; controllers = f.controllers } in o) c.self.view_is in
-    let of : IsKeptOf c.args.layout.now old = of-side c.args.layout.now c.args.self.now m w is c.requires.lent in
-    let t = ended-here s old c.args.lane c.args.tag c.unended.result same c.unended.ensures c.in_default.is in
-    made-for c.args.layout.now s old c.ended.result.now.guest c.in-Some-guest.given.now c.map.result.now same of
-    c.in-Some-guest.ensures c.map.ensures
-
-pub settle-requires-clause-in_place : goal.settle-requires-clause-in_place
-settle-requires-clause-in_place g c =
-    let m : List ℕ = g.C.MemoryCell.bytes c.args.host.now in
-    let w : World = own-world c.args.self.now m in
-    let is : IsSideOf c.args.self.now m w = own-side c.args.self.now m in
-    let old : State = state_in c.args.layout.now c.args.self.now m w is in
-    let s : State = record { host = m; device = old.device; lanes = c.self.inside.lanes.items; controllers = c.self.inside.controllers.items } in
-    let same : s ≡ old = ap (λ (f : Side). let o : State = record { host = m; device = old.device; lanes = f.lanes; controllers = f.controllers } in o) c.self.view_is in
-    let of : IsKeptOf c.args.layout.now old = of-side c.args.layout.now c.args.self.now m w is c.requires.lent in
-    let t = ended-here s old c.args.lane c.args.tag c.unended.result same c.unended.ensures c.in_default.is in
-    let guest = ap (λ (d : Command). d.guest)
-    (c.ended.ensures t.command t.st t.share (ended-there c.self.inside.lanes.items c.args.lane c.args.tag t c.from-at.result c.index-ring.result.now c.from-at.ensures c.index-ring.ensures)) in
-    queues-there c.args.layout.now s old c.args.lane c.args.tag same of t
-    c.from-at.result c.index-ring.result.now c.from-at.ensures c.index-ring.ensures
-    c.ended.result.now.guest c.in-Some-guest.given.now guest c.in-Some-guest.ensures
-    c.from.result c.index_mut-vctl.result.now c.from.ensures c.index_mut-vctl.ensures.value c.map.result.now c.map.ensures
-
-pub index_mut-requires : goal.index_mut-requires
-index_mut-requires g c =
-    let m : List ℕ = g.C.MemoryCell.bytes c.args.host.now in
-    let w : World = own-world c.args.self.now m in
-    let is : IsSideOf c.args.self.now m w = own-side c.args.self.now m in
-    let old : State = state_in c.args.layout.now c.args.self.now m w is in
-    let s : State = record { host = m; device = old.device; lanes = c.self.inside.lanes.items; controllers = c.self.inside.controllers.items } in
-    let same : s ≡ old = ap (λ (f : Side). let o : State = record { host = m; device = old.device; lanes = f.lanes; controllers = f.controllers } in o) c.self.view_is in
-    let t = ended-here s old c.args.lane c.args.tag c.unended.result same c.unended.ensures c.in_default.is in
-    let below = ended-below c.self.inside.lanes.items c.args.lane c.args.tag t in
-    let number = c.from-at.ensures in omega arith
-
-pub release-requires-clause-ended : goal.release-requires-clause-ended
-release-requires-clause-ended g c =
-    let m : List ℕ = g.C.MemoryCell.bytes c.args.host.now in
-    let w : World = own-world c.args.self.now m in
-    let is : IsSideOf c.args.self.now m w = own-side c.args.self.now m in
-    let old : State = state_in c.args.layout.now c.args.self.now m w is in
-    let s : State = record { host = m; device = old.device; lanes = c.self.inside.lanes.items; controllers = c.self.inside.controllers.items } in
-    let same : s ≡ old = ap (λ (f : Side). let o : State = record { host = m; device = old.device; lanes = f.lanes; controllers = f.controllers } in o) c.self.view_is in
-    let t = ended-here s old c.args.lane c.args.tag c.unended.result same c.unended.ensures c.in_default.is in
-    ended-is c.self.inside.lanes.items c.args.lane c.args.tag t c.from-at.result c.index_mut.result.now c.from-at.ensures c.index_mut.ensures.value
-
-pub release-requires-clause-led : goal.release-requires-clause-led
-release-requires-clause-led g c =
-    let m : List ℕ = g.C.MemoryCell.bytes c.args.host.now in
-    let w : World = own-world c.args.self.now m in
-    let is : IsSideOf c.args.self.now m w = own-side c.args.self.now m in
-    let old : State = state_in c.args.layout.now c.args.self.now m w is in
-    let s : State = record { host = m; device = old.device; lanes = c.self.inside.lanes.items; controllers = c.self.inside.controllers.items } in
-    let same : s ≡ old = ap (λ (f : Side). let o : State = record { host = m; device = old.device; lanes = f.lanes; controllers = f.controllers } in o) c.self.view_is in
-    let t = ended-here s old c.args.lane c.args.tag c.unended.result same c.unended.ensures c.in_default.is in
-    ended-led c.self.inside.lanes.items c.args.lane c.args.tag t c.from-at.result c.index_mut.result.now c.from-at.ensures c.index_mut.ensures.value
-
-pub returns-in-Held-clause-step : goal.returns-in-Held-clause-step
-returns-in-Held-clause-step g c = λ w is.
-    let m : List ℕ = g.C.MemoryCell.bytes c.args.host.now in
-    let old : State = state_in c.args.layout.now c.args.self.now m w is in
-    let s : State = record { host = m; device = old.device; lanes = c.self.inside.lanes.items; controllers = c.self.inside.controllers.items } in
-    let same : s ≡ old = ap (λ (f : Side). let o : State = record { host = m; device = old.device; lanes = f.lanes; controllers = f.controllers } in o) c.self.view_is in
-    let of : IsKeptOf c.args.layout.now old = of-side c.args.layout.now c.args.self.now m w is c.requires.lent in
-    let t = ended-here s old c.args.lane c.args.tag c.unended.result same c.unended.ensures c.in_default.is in
-    let guest = ap (λ (d : Command). d.guest)
-    (c.ended.ensures t.command t.st t.share (ended-there c.self.inside.lanes.items c.args.lane c.args.tag t c.from-at.result c.index-ring.result.now c.from-at.ensures c.index-ring.ensures)) in
-    quiet-in c.args.layout.now c.args.self.now m w is (event.Post c.args.lane c.args.tag) tt _ (let n : Side = record { lanes = c.self.inside.lanes.items; tails = c.self.inside.tails.items; controllers = (set c.self.inside.controllers.items c.from.result c.settle.new.vctl) } in n) (g.C.MemoryCell.bytes c.settle.new.host) (ap (λ (f : Side). f.tails) c.self.view_is)
-    (post-held c.args.layout.now s old c.args.lane c.args.tag same of t
-    c.from-at.result c.index-ring.result.now c.from-at.ensures c.index-ring.ensures
-    c.ended.result.now.guest c.in-Some-guest.given.now guest c.in-Some-guest.ensures
-    c.from.result c.index_mut-vctl.result.now c.from.ensures c.index_mut-vctl.ensures.value
-    c.mediator.result c.map.result.now c.outcome.result c.in-Some-outcome.status c.mediator.ensures c.map.ensures c.outcome.ensures c.in-Some-outcome.is
-    c.settle.result (g.C.MemoryCell.bytes c.settle.new.host) c.settle.new.vctl c.settle.ensures.len c.settle.ensures.settled c.in-Held.is)
-
-pub returns-in-Done-clause-step : goal.returns-in-Done-clause-step
-returns-in-Done-clause-step g c = λ w is.
-    let m : List ℕ = g.C.MemoryCell.bytes c.args.host.now in
-    let old : State = state_in c.args.layout.now c.args.self.now m w is in
-    let s : State = record { host = m; device = old.device; lanes = c.self.inside.lanes.items; controllers = c.self.inside.controllers.items } in
-    let same : s ≡ old = ap (λ (f : Side). let o : State = record { host = m; device = old.device; lanes = f.lanes; controllers = f.controllers } in o) c.self.view_is in
-    let of : IsKeptOf c.args.layout.now old = of-side c.args.layout.now c.args.self.now m w is c.requires.lent in
-    let t = ended-here s old c.args.lane c.args.tag c.unended.result same c.unended.ensures c.in_default.is in
-    let guest = ap (λ (d : Command). d.guest)
-    (c.ended.ensures t.command t.st t.share (ended-there c.self.inside.lanes.items c.args.lane c.args.tag t c.from-at.result c.index-ring.result.now c.from-at.ensures c.index-ring.ensures)) in
-    let one = same-lane c.self.inside.lanes.items c.from-at.result c.index-ring.result.now c.index_mut.result.now c.index-ring.ensures c.index_mut.ensures.value
-    (let below = ended-below c.self.inside.lanes.items c.args.lane c.args.tag t in let number = c.from-at.ensures in omega arith) in
-    quiet-in c.args.layout.now c.args.self.now m w is (event.Post c.args.lane c.args.tag) tt _ (let n : Side = record { lanes = (set c.self.inside.lanes.items c.from-at.result c.release.new.self); tails = c.self.inside.tails.items; controllers = (set c.self.inside.controllers.items c.from.result c.settle.new.vctl) } in n) (g.C.MemoryCell.bytes c.settle.new.host) (ap (λ (f : Side). f.tails) c.self.view_is)
-    (post-done c.args.layout.now s old c.args.lane c.args.tag same of t
-    c.from-at.result c.index-ring.result.now c.from-at.ensures c.index-ring.ensures
-    c.ended.result.now.guest c.in-Some-guest.given.now guest c.in-Some-guest.ensures
-    c.from.result c.index_mut-vctl.result.now c.from.ensures c.index_mut-vctl.ensures.value
-    c.mediator.result c.map.result.now c.outcome.result c.in-Some-outcome.status c.mediator.ensures c.map.ensures c.outcome.ensures c.in-Some-outcome.is
-    c.settle.result (g.C.MemoryCell.bytes c.settle.new.host) c.settle.new.vctl c.settle.ensures.len c.settle.ensures.settled
-    c.release.new.self (c.release.ensures ∙ ap (λ (l : Lane). tags_changed (group_in (Some l) c.args.tag) Free l) (sym one)) c.in-Done.is)
-
-pub invariant_of-self : goal.invariant_of-self
-invariant_of-self g c =
-    subst (λ (k : ℕ). AreNoted (set c.self.inside.controllers.items k c.settle.new.vctl) c.noted-self-inside.result) (sym c.from.ensures)
-    (noted-set c.self.inside.controllers.items c.self.inside.noted c.ended.result.now.guest c.noted-self-inside.result c.settle.new.vctl c.self.invariant c.noted-self-inside.ensures)
-
-pub invariant_of-self-in-Done : goal.invariant_of-self-in-Done
-invariant_of-self-in-Done g c =
-    subst (λ (k : ℕ). AreNoted (set c.self.inside.controllers.items k c.settle.new.vctl) c.noted-self-inside.result) (sym c.from.ensures)
-    (noted-set c.self.inside.controllers.items c.self.inside.noted c.ended.result.now.guest c.noted-self-inside.result c.settle.new.vctl c.self.invariant c.noted-self-inside.ensures)
+pub returns-clause-step : goal.returns-clause-step
+returns-clause-step g c =
+    let e = c.in-Ok.ending in
+    let is = c.in-Ok.ensures.ending in
+    let s = c.args.self.now in
+    let l = c.index-ring.result.now in
+    let found : slice_get s.lanes c.args.lane ≡ Some l =
+    looked-up s.lanes c.args.lane c.from.result l c.from.ensures
+    (let below = slice_get_within s.lanes c.args.lane is.at is.found in let at = c.from.ensures in omega arith)
+    (c.index-ring.ensures ∙ ap (λ (f : Side). get_or f.lanes c.from.result l) c.self.view_is) in
+    let one : l ≡ is.at = some-same l is.at (sym found ∙ is.found) in
+    let before = g.C.MemoryCell.bytes c.args.host.now in
+    let after = g.C.MemoryCell.bytes c.store.new.host in
+    let regions = c.in-Some.given.now.memory_map.regions in
+    subst (λ (n : Side). IsSideStep c.args.layout.now (event.Post c.args.lane c.args.tag) s before reply.Done n after) (sym (c.finish-completion.ensures.side is))
+    (ending-step c.args.layout.now s c.args.lane c.args.tag e is c.in-Some.given.now c.in-Some.ensures before after
+    (c.store.ensures.bytes
+    ∙ ap (completion_stored c.finish-completion.result c.map-map.result.now.regions) c.deliver.ensures.bytes
+    ∙ ap (λ (k : Mapping). completion_stored c.finish-completion.result k.regions
+    (delivered_host e.status c.mediator.result c.args.lane (group_in (Some l) c.args.tag) l k.regions (byte_in before))) c.map-map.ensures
+    ∙ ap (λ (a : ℕ). completion_stored c.finish-completion.result regions
+    (delivered_host e.status a c.args.lane (group_in (Some l) c.args.tag) l regions (byte_in before))) c.mediator.ensures
+    ∙ ap (λ (x : Lane). completion_stored c.finish-completion.result regions
+    (delivered_host e.status c.args.layout.now.mediator c.args.lane (group_in (Some x) c.args.tag) x regions (byte_in before))) one
+    ∙ ap (λ (o : Option Completion). completion_stored o regions
+    (delivered_host e.status c.args.layout.now.mediator c.args.lane (group_in (Some is.at) c.args.tag) is.at regions (byte_in before)))
+    (c.finish-completion.ensures.completion is)))
