@@ -3,6 +3,9 @@ pub mod Notes
 pub mod Placed
 pub mod LentHost
 pub mod Sides
+pub mod SideTags
+pub mod CallSteps
+pub mod CallTakes
 pub mod Delegated
 pub mod PhasedReaps
 pub mod Openings

@@ -17,3 +17,4 @@ pub mod Submit
 pub mod Jobs
 pub mod Shown
 pub mod Take
+pub mod Listing
