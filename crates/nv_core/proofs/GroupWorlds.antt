@@ -16,6 +16,7 @@ use Rattle.nv_laws_sound.proofs.Lists.{set-same, set-set, some-same}
 use Rattle.nv_laws_sound.proofs.Retags.{with_tag-is}
 use Rattle.nv_laws_sound.proofs.Stages.{taken-tags}
 use Rattle.nv_laws_sound.proofs.TagEvents.{IsTakenBy}
+use Rattle.nv_machine.proofs.SideWorlds.{world_with}
 use Rattle.nv_model.specs.Transcript.{ReadDone}
 use Rattle.nv_model.specs.declared.reply.Reply.{Reply}
 use Rattle.nv_model.specs.declared.reply.Reply.TheVariants as reply
@@ -128,11 +129,16 @@ taken-by lanes lane tag (Some at) is e =
     let t = taken-tag tag (slice_get at.tags tag) e in
     record { at = at; command = t.command; reads = t.reads; found = is; there = t.is; led = t.led }
 
+pub taken-in : (lanes old : List Lane) (lane tag : ℕ) (u : Option Reply) → lanes ≡ old → u ≡ untaken tag (tag_in (slice_get old lane) tag) → u ≡ None
+    → IsTakenHere lanes lane tag
+taken-in lanes old lane tag u same is e =
+    taken-by lanes lane tag (slice_get lanes lane) refl
+    (subst (λ (ls : List Lane). untaken tag (tag_in (slice_get ls lane) tag) ≡ None) (sym same) (sym is ∙ e))
+
 pub taken-here : (s old : State) (lane tag : ℕ) (u : Option Reply) → s ≡ old → u ≡ untaken tag (tag_of (world_of old) lane tag) → u ≡ None
     → IsTakenHere s.lanes lane tag
 taken-here s old lane tag u same is e =
-    taken-by s.lanes lane tag (slice_get s.lanes lane) refl
-    (subst (λ (o : State). untaken tag (tag_of (world_of o) lane tag) ≡ None) (sym same) (sym is ∙ e))
+    taken-in s.lanes old.lanes lane tag u (ap (λ (o : State). o.lanes) same) is e
 
 module _ (lanes : List Lane) (lane tag : ℕ) (t : IsTakenHere lanes lane tag) where
   -- its lane is there
@@ -167,12 +173,12 @@ taken-step w lane tag t more =
     ∙ leads tag t.command w (more t.command t.reads) t.led
 
 -- all its tags were taken
-pub all-taken : (geometry : Geometry) (s : State) (lane tag i : ℕ) (l : Lane) → IsKeptLane geometry l → IsTakenHere s.lanes lane tag → i ≡ lane
-    → l ≡ get_or s.lanes i l → AreTaken (group_in (Some l) tag) l
-all-taken geometry s lane tag i l fine t at has =
-    let w = world_of s in
-    let found = taken-found s.lanes lane tag t i l at has in
-    let there = taken-there s.lanes lane tag t i l at has in
+pub all-taken : (geometry : Geometry) (lanes : List Lane) (lane tag i : ℕ) (l : Lane) → IsKeptLane geometry l → IsTakenHere lanes lane tag → i ≡ lane
+    → l ≡ get_or lanes i l → AreTaken (group_in (Some l) tag) l
+all-taken geometry lanes lane tag i l fine t at has =
+    let w : World = world_with (λ at. 0) (record { lanes = lanes; tails = []; controllers = [] }) in
+    let found = taken-found lanes lane tag t i l at has in
+    let there = taken-there lanes lane tag t i l at has in
     subst (λ (tags : List ℕ). AreTaken tags l) (group-lane w lane tag l found)
     (All-weaker (HasTag (IsTakenBy t.command) w lane) (λ n. state_in (slice_get l.tags n) ≡ Some state.Taken)
     (λ n h. ap (λ (o : Option Lane). state_in (tag_in o n)) (sym found) ∙ ap state_in (h.is ∙ ap (λ (u : Tag). Some u) h.has.is))

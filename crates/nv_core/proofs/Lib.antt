@@ -4,6 +4,9 @@ pub mod Placed
 pub mod LentHost
 pub mod Sides
 pub mod CallAdmins
+pub mod SideTags
+pub mod CallSteps
+pub mod CallTakes
 pub mod Delegated
 pub mod PhasedReaps
 pub mod Openings

@@ -104,7 +104,7 @@ module _ (geometry : Geometry) (s : State) (is : IsKeptOf geometry s) (lane tag 
       record {
         below = omega (arith, many, among);
         led = record { command = t.command; reads = t.reads; is = there; led = t.led };
-        together = all-taken geometry s lane tag i l fine t at has;
+        together = all-taken geometry s.lanes lane tag i l fine t at has;
         others = first.0;
         first = first.1;
         some = some-tags;

@@ -19,3 +19,4 @@ pub mod Submit
 pub mod Jobs
 pub mod Shown
 pub mod Take
+pub mod Listing

@@ -168,5 +168,5 @@ event-is host_bytes geometry w laid live e mine = by e mine
     by (event.DevPost lane slot) mine = absurd mine
     by (event.DevFail lane slot st) mine = absurd mine
     by (event.Keep block) mine = absurd mine
-    by (event.Reap lane) mine = reap-is geometry w live lane
+    by (event.Reap lane) mine = reap-is geometry w live.consistent live.phased lane
     by (event.Post lane tag) mine = other (event.Post lane tag) mine tt

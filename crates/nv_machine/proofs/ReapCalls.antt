@@ -9,10 +9,11 @@ use Rattle.nv_laws_sound.proofs.Lists.{slice_get-below, slice_get-there}
 use Rattle.nv_laws_sound.proofs.ReapEvents.{answered-at}
 use Rattle.nv_laws_sound.proofs.Rings.{between-head, far-some}
 use Rattle.nv_laws_sound.proofs.phases.Rounds.{slot-tells}
-use Rattle.nv_laws_sound.specs.Consistent.{IsLane}
+use Rattle.nv_laws_sound.specs.Consistent.{IsConsistent, IsLane}
+use Rattle.nv_laws_sound.specs.Phased.{ArePhased}
 use Rattle.nv_laws_sound.specs.Side.{Side}
 use Rattle.nv_machine.specs.Doing.{Doing, for_one, lane_changed, replied, stray}
-use Rattle.nv_machine.specs.InWorld.{IsLive, called_in, fetched_in, in_world, side_of}
+use Rattle.nv_machine.specs.InWorld.{called_in, fetched_in, in_world, side_of}
 use Rattle.nv_machine.specs.Machine.{called, ended_at, fetch, fetch_then, from_one, in_order, is_flying, is_new, names_command, reap, reaped_by}
 use Rattle.nv_machine.proofs.InWorlds.{Is, in-first}
 use Rattle.nv_model.proofs.MemoryLemmas.{bytes_from-append}
@@ -44,7 +45,7 @@ unfolding bytes_from dword number_at
 phase-first host slot = ap phase_of (sym (bytes_from-append host slot 12 4))
 
 -- four bytes, and those behind them
-take-first : (xs ys : List ℕ) → length xs ≡ 4 → take 4 (xs ++ ys) ≡ xs
+pub take-first : (xs ys : List ℕ) → length xs ≡ 4 → take 4 (xs ++ ys) ≡ xs
 take-first (a ∷ b ∷ c ∷ d ∷ []) ys is = refl
 take-first [] ys is = cc
 take-first (a ∷ []) ys is = cc
@@ -52,7 +53,7 @@ take-first (a ∷ b ∷ []) ys is = cc
 take-first (a ∷ b ∷ c ∷ []) ys is = cc
 take-first (a ∷ b ∷ c ∷ d ∷ e ∷ xs) ys is = absurd (omega (arith, is))
 
-drop-first : (xs ys : List ℕ) → length xs ≡ 4 → drop 4 (xs ++ ys) ≡ ys
+pub drop-first : (xs ys : List ℕ) → length xs ≡ 4 → drop 4 (xs ++ ys) ≡ ys
 drop-first (a ∷ b ∷ c ∷ d ∷ []) ys is = refl
 drop-first [] ys is = cc
 drop-first (a ∷ []) ys is = cc
@@ -138,8 +139,8 @@ module _ (w : World) (lane : ℕ) (completion : List ℕ) where
 
 -- ---- a lane of a world that is as events leave it
 
-module _ (geometry : Geometry) (w : World) (live : IsLive geometry w) (lane : ℕ) (l : Lane) (d : DeviceLane) (found : slice_get w.lanes lane ≡ Some l)
-    (there : slice_get w.device lane ≡ Some d) where
+module _ (geometry : Geometry) (w : World) (consistent : IsConsistent geometry w) (phased : ArePhased geometry w) (lane : ℕ) (l : Lane) (d : DeviceLane)
+    (found : slice_get w.lanes lane ≡ Some l) (there : slice_get w.device lane ≡ Some d) where
   abbrev slot : ℕ
   slot = completion_slot geometry.mediator lane l.head
 
@@ -147,10 +148,10 @@ module _ (geometry : Geometry) (w : World) (live : IsLive geometry w) (lane : �
   completion = completion_at geometry w lane l.head
 
   fine : IsLane geometry lane w.host l d
-  fine = live.consistent.of_tags.lanes lane l d found there
+  fine = consistent.of_tags.lanes lane l d found there
 
   new-tells : (phase_of completion == bit l.phase) ≡ not (is_empty l.head d.posted)
-  new-tells = sym (slot-tells geometry w.host lane l.head l.phase d.posted d.phase fine.positions.read (live.phased lane l d found there))
+  new-tells = sym (slot-tells geometry w.host lane l.head l.phase d.posted d.phase fine.positions.read (phased lane l d found there))
 
   -- where one waits it names a command
   waiting-named : is_empty l.head d.posted ≡ false → names_command lane l completion ≡ true
@@ -189,7 +190,7 @@ module _ (geometry : Geometry) (w : World) (live : IsLive geometry w) (lane : �
 
 -- ---- the event
 
-module _ (geometry : Geometry) (w : World) (live : IsLive geometry w) where
+module _ (geometry : Geometry) (w : World) (consistent : IsConsistent geometry w) (phased : ArePhased geometry w) where
   abbrev begun : Doing
   begun = record { side = side_of w; effects = [] }
 
@@ -203,9 +204,9 @@ module _ (geometry : Geometry) (w : World) (live : IsLive geometry w) where
           (step.for_one o w (λ l. step.for_one (slice_get w.device lane) w (λ d. step.reap geometry lane l d w)))
       by None none = ap (λ (v : World). let a : step.After = record { world = v; reply = reply.Ignored } in Some a) (in-first w)
       by (Some l) found =
-          let sides = live.consistent.of_tags.sides in
+          let sides = consistent.of_tags.sides in
           let below = slice_get-below w.lanes lane l found in
           let d = slice_get-there w.device lane (omega (arith, sides, below)) in
           ap (λ (xs : List ℕ). called_in w (reap lane l xs begun)) (reap-fetched geometry w.host (side_of w) lane l found)
-          ∙ read-is geometry w live lane l d.0 found d.1 begun (in-first w)
+          ∙ read-is geometry w consistent phased lane l d.0 found d.1 begun (in-first w)
           ∙ ap (λ (x : Option DeviceLane). Some (step.for_one x w (λ d. step.reap geometry lane l d w))) (sym d.1)
