@@ -108,6 +108,10 @@ AreMapped mapped (done.Done page completion) = IsPageMapped mapped page × IsCom
 abbrev pub takes_command : Controller → Bool
 takes_command c = is_none c.deletion && not (is_queue_full (completion_queue c 0))
 
+-- and where it lies; none is fetched where none may be taken
+abbrev pub command_at : Controller → Option ℕ
+command_at c = if takes_command c then front c 0 else None
+
 -- an entry that was fetched from a memory is the one at the front
 abbrev pub IsFetched : (memory : ℕ → ℕ) → Controller → (entry : List ℕ) → Type 0
 IsFetched memory c entry = (addr : ℕ) → c.deletion ≡ None → is_queue_full (completion_queue c 0) ≡ false → front c 0 ≡ Some addr

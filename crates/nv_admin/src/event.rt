@@ -6,10 +6,11 @@ ghost use Rattle.nv_model.specs.Admin.{admin, is_queue_full};
 ghost use Rattle.nv_model.specs.Controller.{Controller, completion_queue, is_ready, post};
 ghost use Rattle.nv_model.specs.Laws.{QueuesInPlace};
 ghost use Rattle.nv_model.specs.Memory.{byte_in, image, put_image};
-ghost use Rattle.nv_admin.specs.Administering.{AreMapped, IsCompletionMapped, IsFetched, administered, answer_of, answered_with, completed_with, completion_behind};
+ghost use Rattle.nv_admin.specs.Administering.{AreMapped, IsCompletionMapped, IsFetched, administered, answer_of, answered_with, command_at, completed_with, completion_behind};
 ghost use Rattle.nv_admin.specs.Administering.{deletion_done, event_by, ready_done, takes_command};
 ghost use Rattle.nv_admin.specs.Effect.{IsPageMapped, stored_by};
 ghost use Rattle.nv_admin.specs.Event.{controller_behind, host_behind, reply_of};
+ghost use Rattle.nv_vctl.specs.Vctl.{SubmissionsFit};
 
 use crate::administered::Administered;
 use crate::carried::Carried;
@@ -61,6 +62,21 @@ fn takes_command(vctl: &Vctl) -> bool
     ensures { result ≡ takes_command vctl.now }
 {
     vctl.deletion().is_none() && !vctl.is_admin_full()
+}
+
+/// The guest address of the command that [`administer`] is given, which has 64 bytes; `None` where it is given none: a deletion waits, no command may
+/// be taken, or the admin completion queue is full.
+///
+/// The caller knows that the submission queues end at 2 to the 64 at the latest, as those do that lie wholly in a map ([`Vctl::lies_in`]).
+pub fn command_at(vctl: &Vctl) -> Option<u64>
+    requires { SubmissionsFit vctl.now }
+    ensures { result ≡ command_at vctl.now }
+{
+    if takes_command(vctl) {
+        vctl.front(ADMIN_QUEUE)
+    } else {
+        None
+    }
 }
 
 // The command that the event is given; zeros where there is none.

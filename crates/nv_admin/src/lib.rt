@@ -19,7 +19,7 @@
 //! | 0Ch | Asynchronous Event Request | the first four are held and never answered |
 //!
 //! [`administer`] is the same event without a memory. It is given the command that was fetched, and returns what is to be stored: the page of
-//! Identify, and the completion, in this order. [`admin`] fetches the command, calls [`administer`], and stores.
+//! Identify, and the completion, in this order. [`command_at`] says where that command lies. [`admin`] fetches it, calls [`administer`], and stores.
 //!
 //! Before these checks, a fused command, an unknown opcode and a data pointer that is no PRP are refused, in this order. A refusal has DNR 1, and
 //! where a command is refused nothing else changes. Nothing here takes memory.
@@ -50,6 +50,6 @@ mod shown_page;
 
 pub use administered::Administered;
 pub use due::is_due;
-pub use event::{admin, administer};
+pub use event::{admin, administer, command_at};
 pub use reply::Admin;
 pub use shown_page::ShownPage;

@@ -1,14 +1,14 @@
 -- An Admin without memory, as the machine's call.
-use Rattle.std.proofs.Common.{◌≡◌, ℕ, ◌≤◌, Bool, true, false, cond, not, ◌==◌, List, [], ◌++◌, append-nil, length, set, slice_get, slice_index, Option, Some, None, refl, sym, ap, ◌∙◌, subst}
+use Rattle.std.proofs.Common.{◌≡◌, ℕ, ◌≤◌, Bool, true, false, cond, not, ◌&&◌, ◌==◌, List, [], ◌++◌, append-nil, length, set, slice_get, slice_index, Option, Some, None, is_none, arith, refl, sym, ap, ◌∙◌, subst}
 use Rattle.std.proofs.lemmas.Option.{slice_get_past}
-use Rattle.nv_admin.specs.Administering.{EventDone, administered, answered_with, completed_with, deletion_done, event_by, front_done, left_with, ready_done}
+use Rattle.nv_admin.specs.Administering.{EventDone, administered, answered_with, command_at, completed_with, deletion_done, event_by, front_done, left_with, ready_done, takes_command}
 use Rattle.nv_admin.specs.Identify.{Stored, command_stored, opcode_stored, shown_stored, structure_stored}
 use Rattle.nv_admin.specs.declared.administered.Administered.{Administered}
 use Rattle.nv_admin.specs.declared.administered.Administered.TheVariants as done
 use Rattle.nv_admin.specs.declared.reply.Admin.{Admin}
 use Rattle.nv_admin.specs.declared.reply.Admin.TheVariants as admin
 use Rattle.nv_core.proofs.Placed.{owner}
-use Rattle.nv_core.specs.AdminEffects.{admin_effects, admin_reply, completion_effects, page_effects}
+use Rattle.nv_core.specs.AdminEffects.{admin_effects, admin_reply, command_hosts, completion_effects, page_effects}
 use Rattle.nv_core.specs.Seat.{told_by}
 use Rattle.nv_entry.specs.Opcode.{admin_opcode}
 use Rattle.nv_entry.specs.Status.{StatusField}
@@ -20,20 +20,24 @@ use Rattle.nv_entry.specs.declared.opcode.AdminOpcode.TheVariants.{DeleteIoCompl
 use Rattle.nv_entry.specs.declared.opcode.AdminOpcode.TheVariants.{Abort, SetFeatures, GetFeatures, AsynchronousEventRequest}
 use Rattle.nv_entry.specs.declared.status_code.StatusCode.TheVariants.{Success}
 use Rattle.nv_laws_sound.proofs.Lists.{set-same}
-use Rattle.nv_laws_sound.specs.Side.{Side}
+use Rattle.nv_laws_sound.specs.Side.{IsKept, Side}
+use Rattle.nv_machine.proofs.FetchedHosts.{hosts-length}
 use Rattle.nv_machine.proofs.SideWorlds.{begun}
-use Rattle.nv_machine.specs.Doing.{Called, for_one, replied}
-use Rattle.nv_machine.specs.Effects.{Effect}
+use Rattle.nv_machine.specs.Doing.{Called, Doing, for_one, replied}
+use Rattle.nv_machine.specs.Effects.{Effect, hosts_from}
 use Rattle.nv_machine.specs.Machine as machine
-use Rattle.nv_machine.specs.Machine.{call, called}
+use Rattle.nv_machine.specs.Machine.{call, called, fetch}
 use Rattle.nv_mem.specs.GuestMap.{Mapping, mapped}
 use Rattle.nv_mem.specs.declared.region.Region.{Region}
 use Rattle.nv_model.specs.Admin.{Hidden, Shown, Structure, admin_command, identify_reading, is_queue_full, shown}
 use Rattle.nv_model.specs.Controller.{Controller, Deletion, Posted, completion_queue, front, is_ready, post, took, with_submission}
+use Rattle.nv_model.specs.Laws.{QueuesInPlace}
+use Rattle.nv_model.specs.Queue.{sqe_size}
 use Rattle.nv_model.specs.Reading.{Faulty, Reading, Spells, TooLong}
 use Rattle.nv_model.specs.declared.reply.Reply.TheVariants as reply
+use Rattle.nv_vctl.proofs.Entries.{front-mapped}
 use Rattle.nv_world_model.specs.Geometry.{Geometry, Guest, regions_of, shape_of}
-use Rattle.nv_world_model.specs.Seat.{owner_by}
+use Rattle.nv_world_model.specs.Seat.{Owner, owner_by}
 use Rattle.nv_world_model.specs.declared.event.Event.TheVariants as event
 
 -- ---- what a command stores
@@ -187,3 +191,79 @@ module _ (geometry : Geometry) (s old : Side) (number : ℕ) (entry : List ℕ) 
           (subst (λ (g : Option Guest). Comes s g (Some a) (record s { controllers = set s.controllers number new })) (sym there)
           (looked (Some given) (Some c) there has ∙ event-called s number given c has entry
           ∙ ap (called_by s number given c has entry) event_is ∙ told a new)))
+
+-- ---- what is fetched
+
+module _ (geometry : Geometry) (s old : Side) (number : ℕ) (same : s ≡ old) where
+  abbrev Fetches : (before : Side) → Option Guest → (at : Option ℕ) → Type 0
+  Fetches before g at = fetch geometry (event.Admin number) before ≡ command_hosts g at
+
+  asked : (g : Option Guest) (c : Option Controller) → slice_get geometry.guests number ≡ g → slice_get s.controllers number ≡ c
+      → fetch geometry (event.Admin number) s ≡ machine.from_one (owner_by number g c) machine.admin_fetch
+  unfolding fetch
+  asked g c there has =
+      ap (λ (x : Option Guest). machine.from_one (owner_by number x (slice_get s.controllers number)) machine.admin_fetch) there
+      ∙ ap (λ (x : Option Controller). machine.from_one (owner_by number g x) machine.admin_fetch) has
+
+  pub fetch-nobody : slice_get geometry.guests number ≡ None → Fetches old (slice_get geometry.guests number) None
+  fetch-nobody none = subst (λ (o : Side). Fetches o (slice_get geometry.guests number) None) same
+      (subst (λ (g : Option Guest). Fetches s g None) (sym none) (asked None (slice_get s.controllers number) none refl))
+
+  module _ (given : Guest) (there : slice_get geometry.guests number ≡ Some given) where
+    pub fetch-no_controller : length s.controllers ≤ number → Fetches old (slice_get geometry.guests number) None
+    fetch-no_controller past = subst (λ (o : Side). Fetches o (slice_get geometry.guests number) None) same
+        (subst (λ (g : Option Guest). Fetches s g None) (sym there) (asked (Some given) None there (slice_get_past s.controllers number past)))
+
+    -- the front command, where one is fetched
+    fronted : (b : Bool) (f : Option ℕ)
+        → cond b (machine.from_one f (λ addr. hosts_from (regions_of given) addr sqe_size)) [] ≡ command_hosts (Some given) (cond b f None)
+    fronted true None = refl
+    fronted true (Some addr) = refl
+    fronted false f = refl
+
+    pub fetch-done : (c : Controller) (at : Option ℕ) → slice_get s.controllers number ≡ Some c → at ≡ command_at c
+        → Fetches old (slice_get geometry.guests number) at
+    fetch-done c at has is = subst (λ (o : Side). Fetches o (slice_get geometry.guests number) at) same
+        (subst (λ (g : Option Guest). Fetches s g at) (sym there)
+        (asked (Some given) (Some c) there has ∙ fronted (takes_command c) (front c 0)
+        ∙ ap (command_hosts (Some given)) (sym is)))
+
+-- ---- where nothing is fetched, no command is looked at
+
+module _ (o : Owner) (other entry : List ℕ) (m : Doing) where
+  front-unasked : (f : Option ℕ) (full : Bool) → is_queue_full (completion_queue o.controller 0) ≡ full
+      → cond (not full) (machine.from_one f (λ addr. hosts_from (regions_of o.given) addr sqe_size)) [] ≡ []
+      → ((addr : ℕ) → f ≡ Some addr → length (hosts_from (regions_of o.given) addr sqe_size) ≡ sqe_size)
+      → machine.front_done f other o m ≡ machine.front_done f entry o m
+  front-unasked None full is none many = refl
+  front-unasked (Some addr) true is none many = rw is refl
+  front-unasked (Some addr) false is none many =
+      let bad : 0 ≡ sqe_size = ap length (sym none) ∙ many addr refl in absurd (omega arith)
+
+  ready-unasked : (waiting : Option Deletion)
+      → cond (is_none waiting && not (is_queue_full (completion_queue o.controller 0))) (machine.front_entry o 0) [] ≡ []
+      → ((addr : ℕ) → front o.controller 0 ≡ Some addr → length (hosts_from (regions_of o.given) addr sqe_size) ≡ sqe_size)
+      → machine.ready_done waiting other o m ≡ machine.ready_done waiting entry o m
+  ready-unasked (Some d) none many = refl
+  ready-unasked None none many = front-unasked (front o.controller 0) (is_queue_full (completion_queue o.controller 0)) refl none many
+
+  owner-unasked : QueuesInPlace (mapped (regions_of o.given)) o.controller → machine.admin_fetch o ≡ []
+      → machine.administered_in other o m ≡ machine.administered_in entry o m
+  owner-unasked place none =
+      ap (λ (x : Called). cond (is_ready o.controller) x (replied reply.Idle m))
+      (ready-unasked o.controller.deletion none (λ addr at.
+      hosts-length (regions_of o.given) addr sqe_size (front-mapped (mapped (regions_of o.given)) o.controller 0 addr place at)))
+
+pub call-unasked : (geometry : Geometry) (s : Side) (number : ℕ) (other entry : List ℕ) → IsKept geometry s → fetch geometry (event.Admin number) s ≡ []
+    → call geometry (event.Admin number) other s ≡ call geometry (event.Admin number) entry s
+unfolding called fetch
+call-unasked geometry s number other entry kept =
+    each (slice_get geometry.guests number) (slice_get s.controllers number) refl refl
+  where
+    each : (g : Option Guest) (c : Option Controller) → slice_get geometry.guests number ≡ g → slice_get s.controllers number ≡ c
+        → machine.from_one (owner_by number g c) machine.admin_fetch ≡ []
+        → for_one (owner_by number g c) (begun s) (λ o. machine.administered_in other o (begun s))
+        ≡ for_one (owner_by number g c) (begun s) (λ o. machine.administered_in entry o (begun s))
+    each None c there has none = refl
+    each (Some given) None there has none = refl
+    each (Some given) (Some c) there has none = owner-unasked (owner number given c) other entry (begun s) (kept.queues number given c there has) none

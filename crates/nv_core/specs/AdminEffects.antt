@@ -1,14 +1,15 @@
--- What an Admin without memory is answered, and what the host is to do in memory for it (profile).
-use Rattle.std.specs.Prelude.{List, [], ◌++◌, Option, Some, None, IfSome}
+-- What an Admin without memory is given and answered, and what the host is to do in memory for it (profile).
+use Rattle.std.specs.Prelude.{ℕ, List, [], ◌++◌, Option, Some, None, IfSome}
 use Rattle.nv_admin.specs.Administering.{AreMapped}
 use Rattle.nv_admin.specs.Effect.{stored_by}
 use Rattle.nv_admin.specs.Identify.{Stored}
 use Rattle.nv_admin.specs.declared.administered.Administered.{Administered}
 use Rattle.nv_admin.specs.declared.administered.Administered.TheVariants as done
-use Rattle.nv_machine.specs.Effects.{Effect, completion_stores, stores}
+use Rattle.nv_machine.specs.Effects.{Effect, completion_stores, hosts_from, stores}
 use Rattle.nv_mem.specs.GuestMap.{mapped}
 use Rattle.nv_mem.specs.Places.{places_of}
 use Rattle.nv_mem.specs.declared.region.Region.{Region}
+use Rattle.nv_model.specs.Queue.{sqe_size}
 use Rattle.nv_model.specs.declared.reply.Reply.{Reply}
 use Rattle.nv_model.specs.declared.reply.Reply.TheVariants as reply
 use Rattle.nv_vctl.specs.declared.posting.Posting.{Posting}
@@ -39,6 +40,12 @@ admin_effects (Some given) (Some done.Idle) = []
 admin_effects (Some given) (Some done.Held) = []
 admin_effects (Some given) (Some (done.Done page completion)) =
     page_effects (stored_by page) (regions_of given) ++ completion_effects completion (regions_of given)
+
+-- where the command lies that it is given: the host addresses of its 64 bytes
+abbrev pub command_hosts : Option Guest → Option ℕ → List ℕ
+command_hosts None at = []
+command_hosts (Some given) None = []
+command_hosts (Some given) (Some addr) = hosts_from (regions_of given) addr sqe_size
 
 -- all that is stored lies in that guest's memory
 abbrev pub AreStoresMapped : Option Guest → Option Administered → Type 0

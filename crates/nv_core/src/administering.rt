@@ -1,7 +1,7 @@
 //! The guests' admin queues.
 
-ghost use Rattle.std.specs.Prelude.{◌≡◌, [], length, slice_get};
-ghost use Rattle.nv_core.specs.AdminEffects.{AreStoresMapped, admin_effects, admin_reply};
+ghost use Rattle.std.specs.Prelude.{◌≡◌, ℕ, [], List, length, slice_get};
+ghost use Rattle.nv_core.specs.AdminEffects.{AreStoresMapped, admin_effects, admin_reply, command_hosts};
 ghost use Rattle.nv_core.specs.Seat.{told_by};
 ghost use Rattle.nv_core.specs.Front.{IsSideStep};
 ghost use Rattle.nv_core.specs.Kept.{IsLent};
@@ -41,12 +41,29 @@ impl Front {
         reply_of(nv_admin::admin(vctl, block_count, given.map(), host))
     }
 
+    /// The guest address of the command that [`Front::admin_fetched`] is given, which has 64 bytes. `None` where nothing is fetched.
+    pub fn admin_fetch(&self, layout: &Layout, guest: u8) -> Option<u64>
+        requires { IsKept layout.now self.now }
+        ensures { fetch layout.now (Event.Admin guest) self.now ≡ command_hosts (slice_get layout.now.guests guest) result }
+    {
+        let given = layout.guest(guest)?;
+        let number = usize::from(guest);
+        if number >= self.controllers.len() {
+            return None;
+        }
+        // With the length of the host comes what is known of every map.
+        let _known = given.map().host_len();
+        nv_admin::command_at(&self.controllers[number])
+    }
+
     /// [`Front::admin`] without a memory, by the command that was fetched. Where nothing is fetched any command does: it isn't looked at. `None`
     /// where there is no such guest. What is to be stored is in the result, at addresses of the guest, all of which are mapped.
     pub fn admin_fetched(&mut self, layout: &Layout, guest: u8, entry: &Sqe) -> Option<Administered>
         requires { IsKept layout.now self.old }
         ensures call { call layout.now (Event.Admin guest) entry.now self.old
             ≡ replied (admin_reply result) (record { side = self.new; effects = admin_effects (slice_get layout.now.guests guest) result }) }
+        ensures unasked { fetch layout.now (Event.Admin guest) self.old ≡ [] → (other : List ℕ) →
+            call layout.now (Event.Admin guest) other self.old ≡ call layout.now (Event.Admin guest) entry.now self.old }
         ensures mapped { AreStoresMapped (slice_get layout.now.guests guest) result }
         ensures tails { self.new.tails ≡ self.old.tails }
     {

@@ -3,7 +3,7 @@ use Rattle.nv_admin.specs.Administering.{AreMapped}
 use Rattle.nv_core.specs.Noted.{AreNoted}
 use Rattle.nv_core.proofs.Notes.{noted-set}
 use Rattle.nv_core.proofs.GroupWorlds.{looked-up}
-use Rattle.nv_core.proofs.CallAdmins.{call-done, call-no_controller, call-nobody}
+use Rattle.nv_core.proofs.CallAdmins.{call-done, call-no_controller, call-nobody, call-unasked}
 use Rattle.nv_laws_sound.specs.Side.{IsKept, Side}
 use Rattle.nv_mem.specs.GuestMap.{Mapping, mapped}
 use Rattle.nv_model.specs.Laws.{QueuesInPlace}
@@ -32,6 +32,18 @@ administer-requires c =
       in_place = subst (λ (k : Mapping). QueuesInPlace (mapped k.regions) c.index_mut-vctl.result.now) (sym c.map.ensures)
           (kept.queues c.args.guest c.in_ok-given.given.now c.index_mut-vctl.result.now c.in_ok-given.ensures found);
     }
+
+pub returns-in_err-given-clause-unasked : goal.returns-in_err-given-clause-unasked
+returns-in_err-given-clause-unasked c = λ none other.
+    call-unasked c.args.layout.now c.args.self.now c.args.guest other c.args.entry.now c.requires none
+
+pub returns-then-number-len-clause-unasked : goal.returns-then-number-len-clause-unasked
+returns-then-number-len-clause-unasked c = λ none other.
+    call-unasked c.args.layout.now c.args.self.now c.args.guest other c.args.entry.now c.requires none
+
+pub returns-clause-unasked : goal.returns-clause-unasked
+returns-clause-unasked c = λ none other.
+    call-unasked c.args.layout.now c.args.self.now c.args.guest other c.args.entry.now c.requires none
 
 pub returns-clause-call : goal.returns-clause-call
 returns-clause-call c =
