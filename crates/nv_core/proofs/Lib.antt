@@ -6,6 +6,7 @@ pub mod Sides
 pub mod SideTags
 pub mod CallSteps
 pub mod CallTakes
+pub mod CallReaps
 pub mod Delegated
 pub mod PhasedReaps
 pub mod Openings
