@@ -7,6 +7,7 @@ pub mod CallAdmins
 pub mod SideTags
 pub mod CallSteps
 pub mod CallTakes
+pub mod CallReaps
 pub mod Delegated
 pub mod PhasedReaps
 pub mod Openings

@@ -18,11 +18,11 @@ use mathlib.Core.Bool.{beq}
 
 -- ---- the phase tag
 
-phase-small : (completion : List ℕ) → phase_of completion < 2
+pub phase-small : (completion : List ℕ) → phase_of completion < 2
 unfolding bits
 phase-small completion = omega arith
 
-compared : (n : ℕ) (p q b : Bool) → n < 2 → (IsTrue p ↔ (n ≡ 1)) → q ≡ b → beq p q ≡ (n == bit b)
+pub compared : (n : ℕ) (p q b : Bool) → n < 2 → (IsTrue p ↔ (n ≡ 1)) → q ≡ b → beq p q ≡ (n == bit b)
 compared n true true true few iff e = sym (eq-eqb n 1 (iff.0 refl))
 compared n true false false few iff e = sym (ne_eqb n 0 (λ none. (let one : n ≡ 1 = iff.0 refl in omega (arith, one, none))))
 compared n false true true few iff e = sym (ne_eqb n 1 (λ one. (let never = iff.1 one in cc)))

@@ -20,11 +20,11 @@ abbrev pub lane_put : (lane : ℕ) → Lane → Doing → Doing
 lane_put lane l m = record m { side = record m.side { lanes = set m.side.lanes lane l } }
 
 -- twice
-lane-twice : (lane : ℕ) (l k : Lane) (m : Doing) → lane_put lane k (lane_put lane l m) ≡ lane_put lane k m
+pub lane-twice : (lane : ℕ) (l k : Lane) (m : Doing) → lane_put lane k (lane_put lane l m) ≡ lane_put lane k m
 lane-twice lane l k m = ap (λ (ls : List Lane). let n : Doing = record m { side = record m.side { lanes = ls } } in n) (set-set m.side.lanes lane l k)
 
 -- as it is there
-lane-same : (lane : ℕ) (l : Lane) (m : Doing) → slice_get m.side.lanes lane ≡ Some l → m ≡ lane_put lane l m
+pub lane-same : (lane : ℕ) (l : Lane) (m : Doing) → slice_get m.side.lanes lane ≡ Some l → m ≡ lane_put lane l m
 lane-same lane l m at = ap (λ (ls : List Lane). let n : Doing = record m { side = record m.side { lanes = ls } } in n) (sym (set-same m.side.lanes lane l at))
 
 -- a lane that is changed

@@ -4,6 +4,7 @@ use Rattle.std.specs.Prelude.{ℕ, ◌==◌, ◌&&◌, Bool, false, if◌then◌
 use Rattle.nv_core.specs.Tags.{is_flying}
 use Rattle.nv_entry.specs.Completion.{cid_of, phase_of, sqid_of}
 use Rattle.nv_entry.specs.Status.{bit}
+use Rattle.nv_machine.specs.Machine as machine
 use Rattle.nv_model.specs.Memory.{byte_in, bytes_from}
 use Rattle.nv_model.specs.Queue.{cqe_size}
 use Rattle.nv_model.specs.declared.reply.Reply.{Reply}
@@ -37,3 +38,15 @@ answer_of geometry lane (Some l) memory = answer_to lane l (next_completion geom
 abbrev pub waits_in : Geometry → (lane : ℕ) → Option Lane → (memory : List ℕ) → Bool
 waits_in geometry lane None memory = false
 waits_in geometry lane (Some l) memory = is_new l (next_completion geometry lane l memory)
+
+-- ---- without a memory
+
+-- whether the dword that was fetched first has the phase tag that the lane wants
+abbrev pub is_wanted : Option Lane → (dword : List ℕ) → Bool
+is_wanted None dword = false
+is_wanted (Some l) dword = machine.is_new l dword
+
+-- the reply where it hasn't
+abbrev pub idle_at : Option Lane → Reply
+idle_at None = reply.Ignored
+idle_at (Some l) = reply.Idle

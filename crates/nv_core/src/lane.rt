@@ -8,6 +8,7 @@ ghost use Rattle.nv_core.specs.declared.progress.Progress.TheVariants as progres
 ghost use Rattle.nv_model.specs.Transcript.{ReadDone as Read};
 ghost use Rattle.nv_tags.specs.Tags.{command_of, set_each};
 ghost use Rattle.nv_tags.specs.declared.state.TagState.TheVariants as state;
+ghost use Rattle.nv_world_model.specs.Area.{tag_count};
 ghost use Rattle.nv_world_model.specs.SetUp.{most_guests};
 ghost use Rattle.nv_world_model.specs.World.{Command, Taken, claimed, lowest, tag_changed};
 
@@ -57,7 +58,8 @@ impl Lane {
 
     /// Whether an identifier is that of a tag whose part is with the physical controller.
     pub(crate) fn is_flying(&self, identifier: u16) -> bool
-        ensures { result ≡ is_flying (slice_get self.now.tags identifier) }
+        ensures flies { result ≡ is_flying (slice_get self.now.tags identifier) }
+        ensures low { result ≡ true → identifier < tag_count }
     {
         // With a field comes what is kept of the lane.
         let _known = &self.head;

@@ -1,3 +1,4 @@
 pub mod Tied
 pub mod Reaps
 pub mod Contained
+pub mod GivenCalls

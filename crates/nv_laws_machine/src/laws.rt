@@ -4,6 +4,7 @@ ghost use Rattle.std.specs.Prelude.{◌≡◌, ℕ, List, None, Option, Some, le
 ghost use Rattle.nv_core.specs.Front.{IsBeside, IsReaped, IsStepBeside};
 ghost use Rattle.nv_core.specs.Reaping.{answer_of};
 ghost use Rattle.nv_laws_machine.specs.Calls.{AreCalls};
+ghost use Rattle.nv_laws_machine.specs.Given.{AreAnswered, Given, side_given};
 ghost use Rattle.nv_laws_machine.specs.Made.{AreMachines, IsMachines, Made, side_behind};
 ghost use Rattle.nv_laws_sound.specs.LaidOut.{IsLaidOut};
 ghost use Rattle.nv_laws_sound.specs.Mediators.{IsMediators};
@@ -46,4 +47,13 @@ pub fn the_code_is_contained()
         ((number : ℕ) (guest : Guest) → slice_get s.geometry.guests number ≡ Some guest → IsSound guest.memory_map) →
         AreCalls s.geometry made (opening_side s.geometry s.lanes) →
         IsContained s.geometry e fetched (side_behind made (opening_side s.geometry s.lanes)) }
+{}
+
+/// So is the code without memory, whose contracts are the machine's call: from the start of such a set-up, behind any calls, each of which was given as many bytes
+/// as it asks for, whichever they are, or any where it asks for none, each call is contained. Neither a world nor a memory is in it.
+pub fn the_code_without_memory_is_contained()
+    ensures { (s : SetUp) (given : List Given) (e : Event) (fetched : List ℕ) → host_refusal_of s ≡ None →
+        ((number : ℕ) (guest : Guest) → slice_get s.geometry.guests number ≡ Some guest → IsSound guest.memory_map) →
+        AreAnswered s.geometry given (opening_side s.geometry s.lanes) →
+        IsContained s.geometry e fetched (side_given given (opening_side s.geometry s.lanes)) }
 {}

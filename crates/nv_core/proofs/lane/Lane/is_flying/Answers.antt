@@ -24,23 +24,23 @@ elsewhere (Some (Taken command reads)) s e differs = refl
 elsewhere (Some (Flying command share at)) s e differs = (let same : s ≡ state.Flying = cc in absurd (differs same))
 elsewhere (Some (Ended command st share)) s e differs = refl
 
-pub returns-then-from-ge-TAG_COUNT : goal.returns-then-from-ge-TAG_COUNT
-returns-then-from-ge-TAG_COUNT c =
+pub returns-then-from-ge-TAG_COUNT-clause-flies : goal.returns-then-from-ge-TAG_COUNT-clause-flies
+returns-then-from-ge-TAG_COUNT-clause-flies c =
     let i = c.self.inside in
     nowhere (slice_get c.args.self.now.tags c.args.identifier)
     (lane-past i.head i.phase i.tags i.progress.items c.args.self.now c.self.invariant c.self.view_is
     c.args.identifier (let e = c.from.ensures in let t = c.if-from-ge-TAG_COUNT.true in omega arith))
 
-pub returns-in-Flying : goal.returns-in-Flying
-returns-in-Flying c =
+pub returns-in-Flying-clause-flies : goal.returns-in-Flying-clause-flies
+returns-in-Flying-clause-flies c =
     let i = c.self.inside in
     flies (slice_get c.args.self.now.tags c.args.identifier)
     (ap (λ (s : TagState). Some s) (sym c.in-Flying.is ∙ c.state.ensures)
     ∙ lane-state i.head i.phase i.tags i.progress.items c.args.self.now c.self.invariant c.self.view_is
     c.args.identifier (let e = c.from.ensures in let t = c.if-from-ge-TAG_COUNT.false in omega arith))
 
-pub returns-in_default : goal.returns-in_default
-returns-in_default c =
+pub returns-in_default-clause-flies : goal.returns-in_default-clause-flies
+returns-in_default-clause-flies c =
     let i = c.self.inside in
     elsewhere (slice_get c.args.self.now.tags c.args.identifier) c.state.result
     (ap (λ (s : TagState). Some s) c.state.ensures
