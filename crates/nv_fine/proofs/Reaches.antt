@@ -1,11 +1,12 @@
 -- An access of the drive reads and changes what commands in it name.
-use Rattle.std.proofs.Common.{◌≡◌, ℕ, ◌+◌, ◌<◌, ◌≤◌, Bool, true, false, cond, not, ◌&&◌, ◌==◌, nat_lt, List, [], ◌∷◌, All, slice_get, Option, Some, None, is_none, is_some, ◌%◌}
+use Rattle.std.proofs.Common.{◌≡◌, ℕ, ◌+◌, ◌<◌, ◌≤◌, Bool, true, false, cond, not, ◌&&◌, ◌==◌, nat_lt, List, [], ◌∷◌, All, slice_get, Option, Some, None, is_none, is_some}
 use Rattle.std.proofs.Common.{⊎_elim, inl, inr, arith, refl, sym, ap, ◌∙◌, subst}
 use Rattle.std.proofs.lemmas.Bool.{and_parts, cases_lt, cases_eq, ltb-true, ne_eqb}
 use Rattle.std.proofs.lemmas.List.Elements.{All-cons, All-nil}
 use Rattle.std.proofs.lemmas.Option.{option_and_then_some}
 use Rattle.std.specs.List.{list_any}
 use Rattle.std.specs.Prelude.{option_and_then}
+use Rattle.nv_entry.specs.Completion.{phase_of}
 use Rattle.nv_entry.specs.Status.{bit}
 use Rattle.nv_entry.specs.declared.opcode.IoOpcode.{IoOpcode}
 use Rattle.nv_entry.specs.declared.opcode.IoOpcode.TheVariants as opcode
@@ -191,7 +192,7 @@ module _ (geometry : Geometry) (tails : List ℕ) (o : Outside) where
         })))
     for-commands (Answers lane i byte) is =
         option_and_then_some _ (slice_get o.lanes lane) p is (λ d there ruled.
-        when-has (list_any is_some d.working && nat_lt i cqe_size && not (i == 14 && byte % 2 == bit d.phase)) _ p
+        when-has (list_any is_some d.working && nat_lt i cqe_size && not (phase_of _ == bit d.phase)) _ p
         (λ q. IsForCommands geometry tails (Answers lane i byte) o q) ruled (λ may.
         let front = and_parts (list_any is_some d.working && nat_lt i cqe_size) _ may in
         let both = and_parts (list_any is_some d.working) (nat_lt i cqe_size) front.0 in
