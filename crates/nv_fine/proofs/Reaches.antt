@@ -1,11 +1,12 @@
 -- An access of the drive reads and changes what commands in it name.
-use Rattle.std.proofs.Common.{◌≡◌, ℕ, ◌+◌, ◌<◌, ◌≤◌, Bool, true, false, cond, not, ◌&&◌, ◌==◌, nat_lt, List, [], ◌∷◌, All, slice_get, Option, Some, None, is_none, is_some, ◌%◌}
+use Rattle.std.proofs.Common.{◌≡◌, ℕ, ◌+◌, ◌<◌, ◌≤◌, Bool, true, false, cond, not, ◌&&◌, ◌==◌, nat_lt, List, [], ◌∷◌, All, slice_get, Option, Some, None, is_none, is_some}
 use Rattle.std.proofs.Common.{⊎_elim, inl, inr, arith, refl, sym, ap, ◌∙◌, subst}
 use Rattle.std.proofs.lemmas.Bool.{and_parts, cases_lt, cases_eq, ltb-true, ne_eqb}
 use Rattle.std.proofs.lemmas.List.Elements.{All-cons, All-nil}
 use Rattle.std.proofs.lemmas.Option.{option_and_then_some}
 use Rattle.std.specs.List.{list_any}
 use Rattle.std.specs.Prelude.{option_and_then}
+use Rattle.nv_entry.specs.Completion.{phase_of}
 use Rattle.nv_entry.specs.Status.{bit}
 use Rattle.nv_entry.specs.declared.opcode.IoOpcode.{IoOpcode}
 use Rattle.nv_entry.specs.declared.opcode.IoOpcode.TheVariants as opcode
@@ -25,11 +26,11 @@ use Rattle.nv_world_model.specs.ShareArea.{unit_lba}
 
 -- ---- what an access may do is done
 
-when-has : (may : Bool) (p q : Outside) (P : Outside → Type 0) → when may p ≡ Some q → (may ≡ true → P p) → P q
+pub when-has : (may : Bool) (p q : Outside) (P : Outside → Type 0) → when may p ≡ Some q → (may ≡ true → P p) → P q
 when-has true p q P is has = subst P (some-same p q is) (has refl)
 when-has false p q P is has = cc
 
-stored-one : (memory : ℕ → ℕ) (to byte at : ℕ) → (to ≡ at → ⊥) → stored memory to (byte ∷ []) at ≡ memory at
+pub stored-one : (memory : ℕ → ℕ) (to byte at : ℕ) → (to ≡ at → ⊥) → stored memory to (byte ∷ []) at ≡ memory at
 stored-one memory to byte at off =
     ⊎_elim (λ before. stored-outside memory to (byte ∷ []) at (inl before))
     (λ from. ⊎_elim (λ same. absurd (off same)) (λ other. stored-outside memory to (byte ∷ []) at (inr (above from other))) (cases_eq to at)) (cases_lt at to)
@@ -51,7 +52,7 @@ module _ (geometry : Geometry) (tails : List ℕ) (o : Outside) where
         blocks = λ lba offset off. ap (λ (d : ℕ → ℕ → ℕ). d lba offset) disk;
       }
 
-  working-has : (lane id : ℕ) (rule : Working → DriveLane → Option Outside) (q : Outside) (P : Type 0) → on_working o lane id rule ≡ Some q
+  pub working-has : (lane id : ℕ) (rule : Working → DriveLane → Option Outside) (q : Outside) (P : Type 0) → on_working o lane id rule ≡ Some q
       → ((w : Working) (d : DriveLane) → slice_get o.lanes lane ≡ Some d → slice_get d.working id ≡ Some (Some w) → rule w d ≡ Some q → P) → P
   working-has lane id rule q P is has =
       option_and_then_some (λ (d : DriveLane). option_and_then (λ slot. option_and_then (λ w. rule w d) slot) (slice_get d.working id)) (slice_get o.lanes lane) q is
@@ -67,7 +68,7 @@ module _ (geometry : Geometry) (tails : List ℕ) (o : Outside) where
       option_and_then_some (λ (work : Work). rule work w d) w.work q ruled (λ work known then.
       has work w d there (record { w = w; there = record { d = d; on = there; is = found }; known = known }) then))
 
-  tail-has : (lane : ℕ) (rule : DriveLane → ℕ → Option Outside) (q : Outside) (P : Type 0) → on_tail o lane tails rule ≡ Some q
+  pub tail-has : (lane : ℕ) (rule : DriveLane → ℕ → Option Outside) (q : Outside) (P : Type 0) → on_tail o lane tails rule ≡ Some q
       → ((d : DriveLane) (tail : ℕ) → slice_get o.lanes lane ≡ Some d → slice_get tails lane ≡ Some tail → rule d tail ≡ Some q → P) → P
   tail-has lane rule q P is has =
       option_and_then_some (λ (d : DriveLane). option_and_then (rule d) (slice_get tails lane)) (slice_get o.lanes lane) q is (λ d there in_lane.
@@ -191,7 +192,7 @@ module _ (geometry : Geometry) (tails : List ℕ) (o : Outside) where
         })))
     for-commands (Answers lane i byte) is =
         option_and_then_some _ (slice_get o.lanes lane) p is (λ d there ruled.
-        when-has (list_any is_some d.working && nat_lt i cqe_size && not (i == 14 && byte % 2 == bit d.phase)) _ p
+        when-has (list_any is_some d.working && nat_lt i cqe_size && not (phase_of _ == bit d.phase)) _ p
         (λ q. IsForCommands geometry tails (Answers lane i byte) o q) ruled (λ may.
         let front = and_parts (list_any is_some d.working && nat_lt i cqe_size) _ may in
         let both = and_parts (list_any is_some d.working) (nat_lt i cqe_size) front.0 in

@@ -32,7 +32,7 @@ module _ (host_bytes lanes : ℕ) (geometry : Geometry) (laid : IsLaidOut host_b
   goes-good (Some c) f g good called is =
       subst (IsGood lanes geometry) (some-same _ g is) (went-good host_bytes lanes geometry laid c c.left f good.reached called)
 
-  accessed-good : (zeroes : Bool) (a : Access) (f g : Fine) → IsGood lanes geometry f → accessed geometry zeroes a f ≡ Some g → IsGood lanes geometry g
+  pub accessed-good : (zeroes : Bool) (a : Access) (f g : Fine) → IsGood lanes geometry f → accessed geometry zeroes a f ≡ Some g → IsGood lanes geometry g
   unfolding accessed
   accessed-good zeroes (Loads number addr) f g good is = mapped-has (IsGood lanes geometry) (λ at. f) (guest_byte geometry number addr) g is (λ at. good)
   accessed-good zeroes (Stores number addr byte) f g good is =
@@ -66,10 +66,10 @@ module _ (host_bytes lanes : ℕ) (geometry : Geometry) (laid : IsLaidOut host_b
   good-within f c good is = stays-within host_bytes lanes geometry laid f good.reached c (subst (IsCalled geometry f.side) is good.called)
 
 module _ (s : SetUp) (o : Outside) (accepted : host_refusal_of s ≡ None) (sound : AreSound s.geometry) where
-  laid : IsLaidOut s.host_bytes s.lanes s.geometry
+  pub laid : IsLaidOut s.host_bytes s.lanes s.geometry
   laid = host-laid-out s accepted sound
 
-  start-good : IsGood s.lanes s.geometry (start_of s o)
+  pub start-good : IsGood s.lanes s.geometry (start_of s o)
   start-good = record { reached = opening-reached s.geometry s.lanes; called = tt }
 
   pub traces-within : (zeroes : Bool) (accesses : List Access) (f : Fine) (c : Call) → traced s.geometry zeroes accesses (start_of s o) ≡ Some f

@@ -27,7 +27,7 @@ stored-off memory to bytes at off =
     ⊎_elim (λ before. stored-outside memory to bytes at (inl before))
     (λ from. ⊎_elim (λ below. absurd (off from below)) (λ above. stored-outside memory to bytes at (inr above)) (cases_lt at (to + length bytes))) (cases_lt at to)
 
-map-same : (memory other : ℕ → ℕ) (addresses : List ℕ) → All (λ at. memory at ≡ other at) addresses → map memory addresses ≡ map other addresses
+pub map-same : (memory other : ℕ → ℕ) (addresses : List ℕ) → All (λ at. memory at ≡ other at) addresses → map memory addresses ≡ map other addresses
 map-same memory other [] same = refl
 map-same memory other (at ∷ addresses) same =
     ap (λ (byte : ℕ). byte ∷ map memory addresses) (All-head (λ at. memory at ≡ other at) at addresses same)

@@ -1,6 +1,6 @@
 -- The drive, byte by byte: what it may do in the host's memory and to the blocks of the disk, access by access. What a reader grants of a drive is that each
 -- of its accesses is one of these. *Base* is NVM Express Base Specification 2.0, *NVM* is NVM Command Set Specification 1.0.
-use Rattle.std.specs.Prelude.{ℕ, ◌+◌, ◌%◌, Bool, true, false, not, ◌&&◌, ◌||◌, ◌==◌, nat_le, nat_lt, if◌then◌else◌, List, [], ◌∷◌, ◌++◌, filter, length}
+use Rattle.std.specs.Prelude.{ℕ, ◌+◌, Bool, true, false, not, ◌&&◌, ◌||◌, ◌==◌, nat_le, nat_lt, if◌then◌else◌, List, [], ◌∷◌, ◌++◌, filter, length}
 use Rattle.std.specs.Prelude.{slice_get, slice_set, Option, Some, None, is_none, is_some, option_and_then, option_map, unwrap_or}
 use Rattle.std.specs.List.{list_all, list_any}
 use Rattle.nv_entry.specs.Completion.{cid_of as completed_cid, phase_of, sqid_of, status_of}
@@ -195,10 +195,10 @@ driven geometry zeroes tails (Does lane id number leaves) o = on_work o lane id 
 driven geometry zeroes tails (Writes lane id at) o = on_work o lane id (λ work w d. option_and_then (λ byte.
     when (is_read work.opcode && list_any (is_at at) (places_of work.pieces))
     (put lane id (Some (record w { owed = filter (λ p. not (is_at at p)) w.owed })) d (record o { memory = stored o.memory at (byte ∷ []) }))) (w.buffer at))
--- a byte of the next completion is written, with any value, but without the phase tag (Base, "Phase Tag")
+-- a byte of the next completion is written, with any value, as long as the completion has not the phase tag (Base, "Phase Tag")
 driven geometry zeroes tails (Answers lane i byte) o = on_lane o lane (λ d.
-    when (list_any is_some d.working && nat_lt i cqe_size && not (i == 14 && byte % 2 == bit d.phase))
-    (record o { memory = stored o.memory (completion_slot geometry.mediator lane d.posted + i) (byte ∷ []) }))
+    (let slot = completion_slot geometry.mediator lane d.posted in let memory = stored o.memory (slot + i) (byte ∷ []) in
+    when (list_any is_some d.working && nat_lt i cqe_size && not (phase_of (bytes_from memory slot cqe_size) == bit d.phase)) (record o { memory = memory })))
 -- the byte with the phase tag is written last. The command is in the drive no longer; one that failed has done any part (Base, "Phase Tag")
 driven geometry zeroes tails (Completes lane id fails byte) o = on_working o lane id (λ w d.
     (let slot = completion_slot geometry.mediator lane d.posted in let memory = stored o.memory (slot + 14) (byte ∷ []) in

@@ -2,4 +2,5 @@ pub mod Drive
 pub mod Fine
 pub mod Turns
 pub mod Reach
+pub mod Owned
 pub mod Rows

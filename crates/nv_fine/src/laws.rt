@@ -1,10 +1,12 @@
 //! Laws about fine traces, as functions that do nothing: each contract is a law.
 
-ghost use Rattle.std.specs.Prelude.{◌≡◌, ℕ, Bool, List, None, Some, slice_get};
-ghost use Rattle.nv_fine.specs.Drive.{DriveAccess, Outside, driven};
+ghost use Rattle.std.specs.Prelude.{◌≡◌, ℕ, Bool, List, None, Some, replicate, slice_get};
+ghost use Rattle.nv_fine.specs.Drive.{DriveAccess, DriveLane, Outside, Working, driven};
 ghost use Rattle.nv_fine.specs.Fine.{Access, Call, Fine, traced};
-ghost use Rattle.nv_fine.specs.Reach.{IsForCommands};
+ghost use Rattle.nv_fine.specs.Owned.{IsFresh, IsOwned, IsWaiting, fresh_lane};
+ghost use Rattle.nv_fine.specs.Reach.{IsForCommands, IsIn};
 ghost use Rattle.nv_fine.specs.Turns.{StaysWithin, Turn, start_of, turned};
+ghost use Rattle.nv_laws_sound.specs.Consistent.{IsBetween};
 ghost use Rattle.nv_mem.specs.GuestMap.{IsSound};
 ghost use Rattle.nv_world_model.specs.Geometry.{Geometry, Guest};
 ghost use Rattle.nv_world_model.specs.SetUp.{SetUp, host_refusal_of};
@@ -26,4 +28,21 @@ pub fn each_access_leaves_the_others_alone()
 pub fn each_access_of_the_drive_is_for_a_command()
     ensures { (geometry : Geometry) (zeroes : Bool) (tails : List ℕ) (a : DriveAccess) (o p : Outside) →
         driven geometry zeroes tails a o ≡ Some p → IsForCommands geometry tails a o p }
+{}
+
+/// In every fine trace from the start of any set-up that is not refused, with a fresh drive, what is in the drive is the mediator's. Each command that the drive has
+/// taken is of a tag that flies, by its identifier, with the entry that the mediator made of a share of a guest's command; and its source or destination, as the
+/// drive has found it in the list, is that guest's memory or in pages of that guest's tags. So is each entry that waits in a submission ring: it is in memory, whole.
+/// Whatever guests store meanwhile, at whichever times the drive reads, and which call of the mediator is under way: the definition of the drive is the only premise.
+pub fn what_is_in_the_drive_is_the_mediators()
+    // A drive can be fresh: over a memory of zeros.
+    ensures start { (s : SetUp) (disk : ℕ → ℕ → ℕ) (kept : ℕ → Bool) →
+        IsFresh s (record { memory = (λ _. 0); disk = disk; kept = kept; lanes = replicate s.lanes fresh_lane }) }
+    ensures commands { (s : SetUp) (o : Outside) (zeroes : Bool) (accesses : List Access) (f : Fine) (lane id : ℕ) (k : Working) → host_refusal_of s ≡ None →
+        ((number : ℕ) (guest : Guest) → slice_get s.geometry.guests number ≡ Some guest → IsSound guest.memory_map) → IsFresh s o →
+        traced s.geometry zeroes accesses (start_of s o) ≡ Some f → IsIn f.outside lane id k → IsOwned s.geometry f lane id k }
+    ensures entries { (s : SetUp) (o : Outside) (zeroes : Bool) (accesses : List Access) (f : Fine) (lane slot tail : ℕ) (d : DriveLane) → host_refusal_of s ≡ None →
+        ((number : ℕ) (guest : Guest) → slice_get s.geometry.guests number ≡ Some guest → IsSound guest.memory_map) → IsFresh s o →
+        traced s.geometry zeroes accesses (start_of s o) ≡ Some f → slice_get f.outside.lanes lane ≡ Some d → slice_get f.side.tails lane ≡ Some tail →
+        IsBetween d.head tail slot → IsWaiting s.geometry f lane slot }
 {}

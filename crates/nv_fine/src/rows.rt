@@ -66,6 +66,7 @@ pub fn sources()
 #[tactic(none)]
 pub fn completions()
     ensures no_phase_tag_before { is_refused (drive (Answers 0 12 1 ∷ Answers 0 14 1 ∷ [])) (state_with flying_second read_out) ≡ true }
+    ensures nor_by_a_number_that_is_no_byte { is_refused (drive (Answers 0 12 65537 ∷ [])) (state_with flying_second read_out) ≡ true }
     // A Reap before it finds nothing, whatever the other bytes are; one after it ends the tag.
     ensures a_reap_before { tag_after 1 (drive first_bytes ++ whole (event.Reap 0) 1) (state_with flying_second read_out)
         ≡ Some (Some (Flying (of_second odd_read 1) odd_share (Queued 0))) }

@@ -29,6 +29,13 @@ unfolding number_at dword qword bits bytes_of_dwords completion driven known acc
     called fetch fetch_then handed_on statuses_of
 returns-clause-no_phase_tag_before c = refl
 
+pub returns-clause-nor_by_a_number_that_is_no_byte : goal.returns-clause-nor_by_a_number_that_is_no_byte
+unfolding number_at dword qword bits bytes_of_dwords completion driven known accessed traced everywhere addresses bytes_from gathered image scattered
+    stored asked in_memory and_then first_read in_transcript read_array read_sgl read_entries read_source ranges_in move_units clear_units range_units
+    judge opening register reg_write doorbell front took post ran_out differs hosts_of fit_behind built plan_over physical_entry claimed tags_put
+    called fetch fetch_then handed_on statuses_of
+returns-clause-nor_by_a_number_that_is_no_byte c = refl
+
 pub returns-clause-a_reap_before : goal.returns-clause-a_reap_before
 unfolding number_at dword qword bits bytes_of_dwords completion driven known accessed traced everywhere addresses bytes_from gathered image scattered
     stored asked in_memory and_then first_read in_transcript read_array read_sgl read_entries read_source ranges_in move_units clear_units range_units
