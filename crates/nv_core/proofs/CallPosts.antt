@@ -1,10 +1,10 @@
 -- A Post of the machine without memory, by what the mediator's side has.
-use Rattle.std.proofs.Common.{◌≡◌, ℕ, ◌+◌, ◌==◌, Bool, true, false, cond, eq-eqb, List, [], ◌∷◌, ◌++◌, drop, flat_map, set, slice_get, take, Option, Some, None, is_some, refl, sym, ap, ◌∙◌, subst}
+use Rattle.std.proofs.Common.{◌≡◌, ℕ, ◌+◌, ◌==◌, Bool, true, false, cond, eq-eqb, List, [], ◌∷◌, ◌++◌, drop, flat_map, set, slice_get, take, Option, Some, None, is_some, refl, sym, ap, ◌∙◌}
 use Rattle.std.specs.Option.{option_map}
 use Rattle.std.proofs.lemmas.List.{append-nil}
 use Rattle.std.proofs.lemmas.List.Elements.{filter-append}
 use Rattle.nv_core.proofs.GroupWorlds.{IsEndedHere}
-use Rattle.nv_core.specs.Completing.{IsAnswered, completion_for, copies, ended_controller, ended_posting, ended_side, is_copy, may_end, stored_for, stores_of}
+use Rattle.nv_core.specs.Completing.{IsAnswered, completion_for, copies, ended_posting, ended_side, is_copy, may_end, stored_for, stores_of}
 use Rattle.nv_core.specs.Groups.{statuses_in, tags_changed}
 use Rattle.nv_core.specs.Tags.{unended, unled}
 use Rattle.nv_core.specs.declared.completing.Completion.{Completion}
@@ -13,8 +13,8 @@ use Rattle.nv_entry.specs.Status.{StatusField}
 use Rattle.nv_entry.specs.Submission.{cid_of}
 use Rattle.nv_laws_sound.proofs.Lists.{set-same, set-set, some-same}
 use Rattle.nv_laws_sound.specs.Side.{Side}
-use Rattle.nv_machine.specs.Doing.{Called, Doing, controller_put, for_ended, for_leader, for_owner, lane_changed, owner_in, replied, tag_at, tags_put, told}
-use Rattle.nv_machine.specs.Effects.{Effect, completion_stores, copies_to, copy_to, host_of_place, store_at}
+use Rattle.nv_machine.specs.Doing.{Called, Doing, controller_put, for_ended, for_leader, for_owner, owner_in, replied, tag_at, tags_put, told}
+use Rattle.nv_machine.specs.Effects.{Effect, copies_to, copy_to, host_of_place, store_at}
 use Rattle.nv_machine.specs.Machine.{call, called, delivered_by, delivered_from, delivery, post_all, post_at, post_by, statuses_of}
 use Rattle.nv_mem.specs.GuestMap.{host_of}
 use Rattle.nv_mem.specs.Places.{Place, places_of}
@@ -30,7 +30,6 @@ use Rattle.nv_world_model.specs.Area.{bounce_page}
 use Rattle.nv_world_model.specs.Geometry.{Geometry, Guest, regions_of}
 use Rattle.nv_world_model.specs.Plan.{Answer, Bounced, Direct, NoData, Plan}
 use Rattle.nv_world_model.specs.Seat.{Owner, owner_by}
-use Rattle.nv_world_model.specs.Share.{Share}
 use Rattle.nv_world_model.specs.Step.{deciding, ended_status, is_success, status_before}
 use Rattle.nv_world_model.specs.World.{Command, Ended, Flying, Free, Lane, Tag, Taken, changed_at, group_in, tag_changed, tag_in}
 use Rattle.nv_world_model.specs.declared.event.Event.TheVariants as event

@@ -3,22 +3,19 @@ use Rattle.std.proofs.Common.{◌≡◌, ℕ, ◌<◌, List, [], ◌++◌, slice
 use Rattle.std.proofs.lemmas.Option.{slice_get_within}
 use Rattle.nv_core.proofs.CallPosts.{call-post-done, copies-then, delivery-copies}
 use Rattle.nv_core.proofs.GroupWorlds.{IsEndedHere}
-use Rattle.nv_core.specs.Completing.{AreCounted, IsAnswered, IsCountedIn, IsEnding, completion_for, copies, ended_posting, ended_side, may_end, stores_of}
+use Rattle.nv_core.specs.Completing.{AreCounted, IsCountedIn, IsEnding, completion_for, copies, ended_posting, ended_side, may_end, stores_of}
 use Rattle.nv_core.specs.Front.{IsSideOf}
 use Rattle.nv_core.specs.declared.completing.Completion.{Completion}
 use Rattle.nv_core.specs.declared.completing.Ending.{Ending}
 use Rattle.nv_entry.specs.Submission.{cid_of}
 use Rattle.nv_laws_sound.proofs.CountedTags.{commands-at, owned-by}
-use Rattle.nv_laws_sound.proofs.Lists.{some-same}
 use Rattle.nv_laws_sound.specs.Counted.{IsCounted, commands}
-use Rattle.nv_laws_sound.specs.Side.{IsKept, Side, tails_of}
+use Rattle.nv_laws_sound.specs.Side.{IsKept, Side}
 use Rattle.nv_machine.proofs.SideWorlds.{side-with, world_with}
 use Rattle.nv_machine.specs.Doing.{Called, replied}
 use Rattle.nv_machine.specs.Effects.{Effect}
-use Rattle.nv_machine.specs.InWorld.{side_of}
 use Rattle.nv_machine.specs.Machine.{call, delivery}
 use Rattle.nv_model.proofs.CountedBags.{counted-some}
-use Rattle.nv_model.specs.Controller.{Controller}
 use Rattle.nv_model.specs.Memory.{byte_in}
 use Rattle.nv_model.specs.Private.{Unjudged, Taken as Member}
 use Rattle.nv_model.specs.Running.{IsConsistent as IsRunningWith, IsOfIoQueue}

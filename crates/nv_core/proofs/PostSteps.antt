@@ -7,18 +7,16 @@ use Rattle.nv_entry.specs.Submission.{cid_of}
 use Rattle.nv_laws_sound.proofs.Lists.{some-same}
 use Rattle.nv_laws_sound.proofs.Tails.{rung-same}
 use Rattle.nv_laws_sound.specs.Side.{Side, rung_with}
-use Rattle.nv_machine.specs.Doing.{Called, Doing, for_ended, for_leader, for_owner, group_at, owner_in, replied, tag_at}
+use Rattle.nv_machine.specs.Doing.{Called, Doing, for_ended, for_owner, group_at, owner_in, replied, tag_at}
 use Rattle.nv_machine.specs.Effects.{Effect}
 use Rattle.nv_machine.specs.InWorld.{side_of}
-use Rattle.nv_machine.specs.Machine.{call, called, delivery, post_all, post_at, post_by, statuses_of}
+use Rattle.nv_machine.specs.Machine.{call, called, post_all, post_at, post_by, statuses_of}
 use Rattle.nv_model.specs.Controller.{Controller, Posted, is_enabled, post}
-use Rattle.nv_model.specs.Memory.{byte_in}
 use Rattle.nv_model.specs.declared.reply.Reply.{Reply}
 use Rattle.nv_model.specs.declared.reply.Reply.TheVariants as reply
 use Rattle.nv_world_model.specs.Device.{DeviceLane}
 use Rattle.nv_world_model.specs.Geometry.{Geometry}
 use Rattle.nv_world_model.specs.Seat.{Owner}
-use Rattle.nv_world_model.specs.Share.{Share}
 use Rattle.nv_world_model.specs.Step as step
 use Rattle.nv_world_model.specs.World.{Command, Ended, Flying, Free, Lane, Tag, Taken, World, group}
 use Rattle.nv_world_model.specs.declared.event.Event.TheVariants as event

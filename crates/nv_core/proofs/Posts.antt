@@ -3,7 +3,7 @@ use Rattle.std.proofs.Common.{◌≡◌, ℕ, ◌<◌, ◌^◌, Bool, true, fals
 use Rattle.std.proofs.Common.{Option, Some, None, IfSome, is_some, arith, refl, sym, ap, ◌∙◌, subst}
 use Rattle.std.specs.Option.{option_map}
 use Rattle.std.proofs.lemmas.Option.{slice_get_within}
-use Rattle.nv_core.proofs.GroupWorlds.{IsEndedHere, ended-step, group-lane, statuses-lane, with_lane_at, with_tags-lane}
+use Rattle.nv_core.proofs.GroupWorlds.{IsEndedHere, ended-step, group-lane, statuses-lane, with_tags-lane}
 use Rattle.nv_core.proofs.Placed.{owner, owner-there}
 use Rattle.nv_core.proofs.PostParts.{parts-of}
 use Rattle.nv_core.specs.Completing.{IsEnding, completion_for, completion_stored, ended_controller, ended_posting, ended_side, may_end}
@@ -29,12 +29,11 @@ use Rattle.nv_model.specs.declared.reply.Reply.TheVariants as reply
 use Rattle.nv_vctl.proofs.Entries.{post-mapped}
 use Rattle.nv_vctl.specs.Vctl.{controller_behind, posting_of}
 use Rattle.nv_vctl.specs.declared.posting.Posting.{Posting}
-use Rattle.nv_world_model.specs.Area.{bounce_page, tag_count}
+use Rattle.nv_world_model.specs.Area.{bounce_page}
 use Rattle.nv_world_model.specs.Device.{DeviceLane}
 use Rattle.nv_world_model.specs.Geometry.{Geometry, Guest, regions_of}
 use Rattle.nv_world_model.specs.Plan.{Answer, Bounced, Direct, NoData, Plan}
 use Rattle.nv_world_model.specs.Seat.{Owner, owner_of, put_back}
-use Rattle.nv_world_model.specs.Share.{Share}
 use Rattle.nv_world_model.specs.Step.{After, deciding, delivered, delivered_all, delivered_by, delivered_from, for_owner, is_success}
 use Rattle.nv_world_model.specs.Step.{post_all, post_at, post_by, posted_to, ran_out_of, replied, scattered_to, statuses_of, step}
 use Rattle.nv_world_model.specs.World.{Command, Ended, Flying, Free, Lane, Tag, Taken, World, group, group_in, tag_in, with_controller, with_host, with_tags}

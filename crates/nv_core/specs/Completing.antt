@@ -1,5 +1,5 @@
 -- A command that has ended, completed for its guest without the host's memory (profile).
-use Rattle.std.specs.Prelude.{◌≡◌, ℕ, ◌<◌, if◌then◌else◌, Bool, true, false, List, [], ◌∷◌, filter, is_some, slice_get, slice_index, slice_set, Option, Some, None}
+use Rattle.std.specs.Prelude.{◌≡◌, ℕ, ◌<◌, if◌then◌else◌, Bool, true, false, List, [], filter, is_some, slice_get, slice_index, slice_set, Option, Some, None}
 use Rattle.std.specs.Option.{option_map}
 use Rattle.nv_core.specs.Groups.{statuses_in, tags_changed}
 use Rattle.nv_core.specs.declared.completing.Completion.{Completion}

@@ -1,6 +1,6 @@
 -- How a command ends in the mediator: its completions are read, and later it is delivered and completed for its guest (profile; posting:
 -- Base Specification 2.0, "Memory-based Transport Queue Model").
-use Rattle.std.specs.Prelude.{◌≡◌, ℕ, ◌<◌, ◌&&◌, Bool, true, false, if◌then◌else◌, List, [], ◌∷◌, All, Option, Some, None, slice_get}
+use Rattle.std.specs.Prelude.{◌≡◌, ℕ, ◌&&◌, Bool, true, false, if◌then◌else◌, List, [], ◌∷◌, All, Option, Some, None, slice_get}
 use Rattle.std.specs.Bool.{⊤}
 use Rattle.nv_entry.specs.Opcode.{io_opcode}
 use Rattle.nv_entry.specs.Status.{StatusField}

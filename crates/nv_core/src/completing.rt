@@ -43,7 +43,7 @@ impl Front {
     /// is full; Stale where some part has not ended, or the tag is none that a command goes by; Ignored where there is no such tag.
     ///
     /// No memory is touched. The caller first copies the bytes of a bounced Read that succeeded, and then stores the completion: its last dword,
-    /// which has the phase tag, after the rest.
+    /// which has the phase tag, after the rest. No call says yet which copies these are.
     ///
     /// The caller knows that each guest's controller counts the guest's commands, as it does in every world that events lead to.
     #[inline(never)]

@@ -11,6 +11,9 @@
 //! finds something to do, and [`Core::holder`] whose command a tag has. [`Core::store`] and [`Core::load`] are a guest's own, of bytes that are
 //! lent, and take no memory. [`Core::host`], [`Core::block`] and [`Core::kept`] show the host's memory and the disk.
 //!
+//! [`Front::complete`] is a Post that is given no memory. Its contract is the call of `nv_machine`: the side, the reply, and that the effects are copies and
+//! then the stores of the completion that it returns. [`Front::post`] decides by the same code, and moves the bytes itself.
+//!
 //! `world_of` (`specs/State`) says which world a state means. A call ensures one equation: the new state's world and the reply are the definition's
 //! step of the old state's world. Where memory is refused, nothing has changed.
 //!

@@ -4,8 +4,9 @@
 //! A [`Vctl`] is what a guest sees of an NVMe controller of its own. The guest acts on it by [`Vctl::reg_read`], [`Vctl::reg_write`] and
 //! [`Vctl::doorbell`]. The code that serves the guest reads the command that comes next ([`Vctl::peek_sqe`]), takes it ([`Vctl::took`]), and posts
 //! its completion ([`Vctl::post_cqe`]) or, where the guest has reset the controller meanwhile, lets it run out ([`Vctl::ran_out`]). [`Vctl::post`] is
-//! given no memory: it returns the completion as a [`Posting`], which its caller stores. What admin commands do to queues has separate calls. Which interrupts the guest is to get, [`Vctl::pending`] reports by the vectors of its completion queues, and
-//! [`Vctl::completion_queue`] where each of these stands.
+//! given no memory: it returns the completion as a [`Posting`], which its caller stores. What admin commands do to queues has separate calls. Which
+//! interrupts the guest is to get, [`Vctl::pending`] reports by the vectors of its completion queues, and [`Vctl::completion_queue`] where each of
+//! these stands.
 //! Each call is the definition of `nv_model/specs/Controller` or `Admin`, word for word. Entries are in the guest's memory, which is a map's part of
 //! the host. Nothing here allocates memory.
 //!

@@ -1,4 +1,4 @@
-use Rattle.std.proofs.Common.{◌∙◌, ◌<◌, ◌^◌, ◌≡◌, ℕ, List, Option, Some, IfSome, length, get_or, slice_get, true, arith, refl, ap, sym, subst}
+use Rattle.std.proofs.Common.{◌∙◌, ◌<◌, ◌^◌, ◌≡◌, ℕ, Option, Some, IfSome, length, get_or, slice_get, true, arith, ap, sym, subst}
 use Rattle.std.proofs.lemmas.Option.{slice_get_within}
 use Rattle.nv_core.proofs.Endings.{counted-with, ending-counted}
 use Rattle.nv_core.proofs.GroupWorlds.{looked-up}
