@@ -1,9 +1,10 @@
-//! How long a guest's commands wait while another guest's long commands go on, on the simulated drive.
+//! How long a guest's commands wait while another guest's long commands go on, on the simulated drive, and on that in a file.
 //!
-//!     cargo run --release --example ram_waits -- [FILE]
+//!     cargo run --release --example ram_waits -- [FILE [direct]]
 //!
 //! Both guests' commands come by the same lane. One thread rings doorbells and lets the drive work, as the mediator's thread does; the times are from the
-//! doorbell to the completion of commands of 4 KiB. Without FILE the drive is in memory; FILE is created and removed again. The drive has 488 MiB.
+//! doorbell to the completion of commands of 4 KiB. Without FILE the drive is in memory; FILE is created and removed again. With `direct` it is that of
+//! `drive file`, by io_uring and direct I/O, else that of `drive ram`. The drive has 488 MiB.
 
 use std::collections::HashMap;
 use std::path::PathBuf;
@@ -12,6 +13,7 @@ use std::time::{Duration, Instant};
 
 use nix::poll::{poll, PollFd, PollFlags, PollTimeout};
 use nix::sys::time::TimeValLike;
+use nvmed_host::drive::file::{FileDrive, Lasting};
 use nvmed_host::drive::prp::SharedMemory;
 use nvmed_host::drive::ram::RamDrive;
 use nvmed_host::drive::{Budget, Drive, LaneRings};
@@ -51,6 +53,9 @@ impl SharedMemory for Memory {
         self.0.get_slice(usize::try_from(host).ok()?, len).ok()
     }
 }
+
+// SAFETY: the region keeps its place until it is dropped, and its bytes are given out as volatile slices alone.
+unsafe impl Lasting for Memory {}
 
 /// The driver's side of the lane.
 struct Driver {
@@ -213,6 +218,7 @@ fn cost(driver: &mut Driver, what: &str, opcode: u8) -> Result<(), Failure> {
 
 fn main() -> Result<(), Failure> {
     let image = std::env::args_os().nth(1).map(PathBuf::from);
+    let is_direct = std::env::args_os().nth(2).is_some_and(|word| word == "direct");
     let memory = Arc::new(Memory(MmapRegion::new(MEMORY)?));
     for i in 0..31u64 {
         memory
@@ -228,6 +234,10 @@ fn main() -> Result<(), Failure> {
     }
     let mut drive: Box<dyn Drive> = match &image {
         None => Box::new(RamDrive::in_memory(Arc::clone(&memory), BLOCKS)?),
+        Some(path) if is_direct => {
+            std::fs::File::create_new(path)?.set_len(BLOCKS * 512)?;
+            Box::new(FileDrive::open(Arc::clone(&memory), path, BLOCKS)?)
+        }
         Some(path) => Box::new(RamDrive::in_file(Arc::clone(&memory), BLOCKS, path)?),
     };
     println!("{}", drive.describe());

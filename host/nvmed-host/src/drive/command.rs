@@ -54,6 +54,8 @@ pub struct Extent {
 pub struct Clearing {
     /// What is still to be made zero: no two meet, the last comes first.
     pub left: Vec<Extent>,
+    /// Of the last of these the bytes before this one are known to be data, which is to be made zero.
+    pub data_to: u64,
     /// Whether the zeros are durable before the completion is there (Force Unit Access).
     pub forced: bool,
     /// Whether the blocks' room is given back: the command deallocates.
@@ -106,6 +108,7 @@ impl Step {
                 let extent = extent(entry.first_block(), u64::from(entry.blocks()), blocks)?;
                 Ok(Some(Step::Clear(Clearing {
                     left: vec![extent],
+                    data_to: 0,
                     forced: entry.is_forced(),
                     gives_back: entry.wants_deallocation(),
                 })))
@@ -198,6 +201,7 @@ fn manage<M: SharedMemory + ?Sized>(entry: &Submission, memory: &M, blocks: u64)
     let left = merged(extents);
     Ok((!left.is_empty()).then_some(Step::Clear(Clearing {
         left,
+        data_to: 0,
         forced: false,
         gives_back: true,
     })))
