@@ -2,7 +2,9 @@
 //!
 //! A module has one task. None of this is proved: what a guest, its QEMU or a drive sends is checked where it enters.
 
+pub mod board;
 pub mod config;
+pub mod control;
 pub mod doorbells;
 pub mod drive;
 pub mod guest;

@@ -31,6 +31,7 @@ The configuration has plain lines; '#' begins a comment, and a word in quotes ma
   drive qemu SOCKET FILE      the controller of a QEMU: its qtest socket, and the file that is the first part of its RAM
   drive vfio 0000:01:00.0     a controller that is bound to vfio-pci
   lanes N                     pairs of queues of the drive, 1 to 8 (1)
+  control PATH                a socket for operators' requests, of this program's user and root
   spin N                      microseconds that the program goes on without a pause after its last event, 0 to 1000000 (100)
   guest G memory SIZE [FILE]  a guest, numbered from 0 in order, its memory, and the file for it
   extent G BASE BLOCKS        blocks of 512 bytes of the drive that are the guest's: one to eight such lines

@@ -11,6 +11,7 @@ use std::time::{Duration, Instant};
 use vm_memory::Bytes;
 
 use super::side::{Rings, Side};
+use crate::board::Board;
 use crate::drive::{Drive, DriveError, LaneRings};
 use crate::memory::Window;
 
@@ -186,6 +187,16 @@ impl Lanes {
     #[must_use]
     pub fn have(&self, guest: usize) -> bool {
         self.counts.get(guest).is_some_and(|&count| count != 0)
+    }
+
+    /// Shows how many commands of each lane and of each guest the drive has.
+    pub fn show(&self, board: &Board) {
+        for (lane, shown) in self.lanes.iter().zip(&board.lanes) {
+            shown.show_flying(lane.flying);
+        }
+        for (&count, shown) in self.counts.iter().zip(&board.guests) {
+            shown.show_flying(count);
+        }
     }
 
     /// A lane whose commands the drive has not answered for as long as that, or longer.
