@@ -5,6 +5,7 @@
 pub mod board;
 pub mod config;
 pub mod control;
+pub mod ctl;
 pub mod doorbells;
 pub mod drive;
 pub mod guest;

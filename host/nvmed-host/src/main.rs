@@ -2,6 +2,7 @@
 
 #![forbid(unsafe_code)]
 
+use std::io::{self, Write};
 use std::path::{Path, PathBuf};
 use std::process::ExitCode;
 use std::time::Duration;
@@ -9,6 +10,7 @@ use std::time::Duration;
 use clap::error::ErrorKind;
 use clap::{Arg, ArgAction, Command};
 use nvmed_host::config::Config;
+use nvmed_host::ctl::{self, Words};
 use nvmed_host::host::{Host, Outcome};
 use nvmed_host::log::Log;
 use nvmed_host::signals::Signals;
@@ -46,6 +48,7 @@ The configuration has plain lines; '#' begins a comment, and a word in quotes ma
   start G WORD..              its QEMU is started with these words; more such lines add words
   user G NAME                 the user whose processes may connect to the socket of listen (the program's own)
 
+'nvmed-host ctl SOCKET WORDS..' asks a running program by the socket of its line 'control': 'nvmed-host ctl --help' has the words.
 With --statistics a line a second says what the drive was given: of each guest its reads and writes, and their bytes.
 Status: 0 where all guests ended or a signal ended it, 1 where it could not begin, 2 for wrong words, 3 where the drive failed.";
 
@@ -86,6 +89,39 @@ fn words() -> Command {
                         .help("The file of the configuration"),
                 ),
         )
+        .subcommand(ctl_words())
+}
+
+fn ctl_words() -> Command {
+    let wait = Arg::new("seconds")
+        .value_name("SECONDS")
+        .value_parser(clap::value_parser!(u64).range(0..=600))
+        .help("How long that is waited for, 0 to 600 (30)");
+    Command::new("ctl")
+        .about("Asks a running program by its control socket")
+        .subcommand_required(true)
+        .disable_help_subcommand(true)
+        .arg(
+            Arg::new("json")
+                .long("json")
+                .action(ArgAction::SetTrue)
+                .help("What the reply has, as it is"),
+        )
+        .arg(
+            Arg::new("socket")
+                .value_name("SOCKET")
+                .required(true)
+                .value_parser(clap::value_parser!(PathBuf))
+                .help("That of the configuration's line 'control'"),
+        )
+        .subcommand(Command::new("state").about("What guests, lanes and the drive are at"))
+        .subcommand(
+            Command::new("drain")
+                .about("Takes no commands of guests any more, and waits until those under way have run out")
+                .arg(wait),
+        )
+        .subcommand(Command::new("resume").about("Takes commands again after a drain"))
+        .subcommand(Command::new("end").about("Ends the program, as SIGTERM does"))
 }
 
 /// The version of this program, of the library's interface, and which kind of library there is.
@@ -112,6 +148,9 @@ fn main() -> ExitCode {
     if let Some(("check", matches)) = matches.subcommand() {
         return ExitCode::from(check(&path_of(matches, "file")));
     }
+    if let Some(("ctl", matches)) = matches.subcommand() {
+        return ExitCode::from(ask(&path_of(matches, "socket"), matches));
+    }
     if matches.get_flag("version") {
         println!("nvmed-host {}", version());
         return ExitCode::from(ENDED);
@@ -125,6 +164,31 @@ fn check(path: &Path) -> u8 {
         Ok(config) => {
             println!("{}: good, with {} guests", path.display(), config.guests.len());
             ENDED
+        }
+        Err(error) => {
+            eprintln!("nvmed-host: {error}");
+            FAILED
+        }
+    }
+}
+
+/// Asks a running program.
+fn ask(socket: &Path, matches: &clap::ArgMatches) -> u8 {
+    let words = match matches.subcommand() {
+        Some(("drain", matches)) => Words::Drain(matches.get_one("seconds").copied()),
+        Some(("resume", _)) => Words::Resume,
+        Some(("end", _)) => Words::End,
+        _ => Words::State,
+    };
+    match ctl::run(socket, &words, matches.get_flag("json")) {
+        Ok(said) => {
+            // a reader that is gone has nothing to be told
+            let _gone = io::stdout().write_all(said.text.as_bytes());
+            if said.good {
+                ENDED
+            } else {
+                FAILED
+            }
         }
         Err(error) => {
             eprintln!("nvmed-host: {error}");

@@ -211,3 +211,56 @@ fn hostile_operators_hold_up_nobody() {
     program.signal(nix::sys::signal::Signal::SIGTERM);
     assert_eq!(program.status(), 0);
 }
+
+/// What the program prints as `ctl`: its status, standard output and standard error.
+fn ctl(folder: &Folder, words: &[&str]) -> (i32, String, String) {
+    let socket = operator::socket(folder);
+    let mut all = vec!["ctl", socket.to_str().unwrap()];
+    all.extend(words);
+    program::run(&all)
+}
+
+#[test]
+fn an_operators_words() {
+    let folder = Folder::new("ctl");
+    let mut program = Program::start(&folder, &configuration(&folder, 2, &line(&folder)), &[]);
+    await_state(&folder, |state| state["drive"]["state"] == "good");
+    let (status, said, _) = ctl(&folder, &["state"]);
+    assert_eq!(status, 0);
+    assert!(
+        said.contains("guest  state    client  memory  blocks  share  in flight\n"),
+        "{said}"
+    );
+    assert!(said.contains("; running\ndrive ram: good: "), "{said}");
+    let path = operator::socket(&folder);
+    let (status, said, _) = program::run(&["ctl", "--json", path.to_str().unwrap(), "state"]);
+    let state: serde_json::Value = serde_json::from_str(&said).unwrap();
+    assert_eq!((status, &state["phase"]), (0, &"running".into()));
+    let (status, said, _) = ctl(&folder, &["drain", "5"]);
+    assert_eq!(
+        (status, said.as_str()),
+        (0, "drained: nothing is taken, and nothing is under way\n")
+    );
+    assert_eq!(ctl(&folder, &["resume"]).0, 0);
+    for wrong in [
+        &[][..],
+        &["what"],
+        &["state", "more"],
+        &["drain", "601"],
+        &["drain", "-1"],
+        &["end", "now"],
+    ] {
+        assert_eq!(ctl(&folder, wrong).0, 2, "{wrong:?}");
+    }
+    assert_eq!(program::run(&["ctl"]).0, 2);
+    assert_eq!(program::run(&["ctl", "--help"]).0, 0);
+    let (status, said, _) = ctl(&folder, &["end"]);
+    assert_eq!((status, said.as_str()), (0, "the program ends\n"));
+    assert_eq!(program.status(), 0);
+    let (status, _, said) = ctl(&folder, &["state"]);
+    assert_eq!(status, 1);
+    assert!(
+        said.starts_with("nvmed-host: ") && said.contains("is the program running"),
+        "{said}"
+    );
+}
