@@ -8,6 +8,7 @@ use std::io;
 use std::sync::atomic::{AtomicBool, AtomicU32, AtomicU8, Ordering};
 use std::sync::{Arc, OnceLock};
 
+use crate::figures::{Counter, GuestFigures};
 use crate::mediation::wake::Bell;
 
 /// What a guest is at.
@@ -29,7 +30,8 @@ pub enum GuestState {
 }
 
 impl GuestState {
-    const ALL: [Self; 6] = [
+    /// All of them.
+    pub const ALL: [Self; 6] = [
         Self::Waiting,
         Self::Connected,
         Self::Enabled,
@@ -67,7 +69,8 @@ pub enum DriveState {
 }
 
 impl DriveState {
-    const ALL: [Self; 4] = [Self::Opening, Self::Good, Self::Reset, Self::Failed];
+    /// All of them.
+    pub const ALL: [Self; 4] = [Self::Opening, Self::Good, Self::Reset, Self::Failed];
 
     /// Its name, for the operator.
     #[must_use]
@@ -135,6 +138,8 @@ pub struct GuestBoard {
     /// As the guest's thread sees its end.
     end: AtomicU8,
     flying: AtomicU32,
+    /// Its figures.
+    pub figures: GuestFigures,
 }
 
 impl GuestBoard {
@@ -182,6 +187,8 @@ impl GuestBoard {
 pub struct LaneBoard {
     flying: AtomicU32,
     closed: AtomicBool,
+    /// Commands that the drive has answered.
+    pub commands: Counter,
 }
 
 impl LaneBoard {

@@ -8,6 +8,7 @@ pub mod control;
 pub mod ctl;
 pub mod doorbells;
 pub mod drive;
+pub mod figures;
 pub mod guest;
 pub mod host;
 pub mod interrupts;

@@ -2,7 +2,7 @@
 
 #![forbid(unsafe_code)]
 
-use std::io::{self, Write};
+use std::io::{self, IsTerminal, Write};
 use std::path::{Path, PathBuf};
 use std::process::ExitCode;
 use std::time::Duration;
@@ -116,6 +116,24 @@ fn ctl_words() -> Command {
         )
         .subcommand(Command::new("state").about("What guests, lanes and the drive are at"))
         .subcommand(
+            Command::new("figures")
+                .about("How many commands guests had since the program's begin, and how long they took")
+                .arg(
+                    Arg::new("format")
+                        .value_name("FORMAT")
+                        .value_parser(["prometheus"])
+                        .help("A text in Prometheus' format, and else tables"),
+                ),
+        )
+        .subcommand(
+            Command::new("top").about("What guests do, each second").arg(
+                Arg::new("times")
+                    .value_name("TIMES")
+                    .value_parser(clap::value_parser!(u64).range(1..=1_000_000_000))
+                    .help("So many times; without it until it is interrupted"),
+            ),
+        )
+        .subcommand(
             Command::new("drain")
                 .about("Takes no commands of guests any more, and waits until those under way have run out")
                 .arg(wait),
@@ -176,6 +194,9 @@ fn check(path: &Path) -> u8 {
 fn ask(socket: &Path, matches: &clap::ArgMatches) -> u8 {
     let words = match matches.subcommand() {
         Some(("drain", matches)) => Words::Drain(matches.get_one("seconds").copied()),
+        Some(("figures", matches)) if matches.contains_id("format") => Words::Prometheus,
+        Some(("figures", _)) => Words::Figures,
+        Some(("top", matches)) => return top(socket, matches.get_one("times").copied()),
         Some(("resume", _)) => Words::Resume,
         Some(("end", _)) => Words::End,
         _ => Words::State,
@@ -190,6 +211,19 @@ fn ask(socket: &Path, matches: &clap::ArgMatches) -> u8 {
                 FAILED
             }
         }
+        Err(error) => {
+            eprintln!("nvmed-host: {error}");
+            FAILED
+        }
+    }
+}
+
+/// Shows what guests of a running program do.
+fn top(socket: &Path, times: Option<u64>) -> u8 {
+    let mut out = io::stdout();
+    let clear = out.is_terminal();
+    match ctl::top(socket, times, clear, &mut out) {
+        Ok(()) => ENDED,
         Err(error) => {
             eprintln!("nvmed-host: {error}");
             FAILED

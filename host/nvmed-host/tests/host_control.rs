@@ -264,3 +264,61 @@ fn an_operators_words() {
         "{said}"
     );
 }
+
+/// Counts of a guest's kind of command, as JSON and as Prometheus' text.
+#[test]
+fn figures_are_those_of_the_commands() {
+    if !is_real() {
+        return;
+    }
+    let folder = Folder::new("figures");
+    let _program = Program::start(&folder, &configuration(&folder, 2, &line(&folder)), &[]);
+    let mut guest = connect(&folder, "g1");
+    guest.bring_up().unwrap();
+    for round in 0..10 {
+        assert_eq!(guest.write_blocks(8 * round, 1).unwrap().status, 0);
+        guest.read_blocks(8 * round).unwrap();
+    }
+    assert_eq!(guest.command(1, 0, 0, [0; 3]).unwrap().status, 0, "a Flush");
+    assert_eq!(guest.command(1, 8, 0, [0, 0, 7]).unwrap().status, 0, "Write Zeroes");
+    // a Compare that finds another byte, and what the mediator refuses by itself
+    guest.memory.write(0x10_0000, &[9; 4096]).unwrap();
+    assert_ne!(guest.command(1, 5, 0x10_0000, [8, 0, 7]).unwrap().status, 0);
+    assert_ne!(guest.command(1, 2, 0x20_0000, [2048, 0, 0]).unwrap().status, 0);
+    let figures = ask(&folder, "figures", "");
+    let kinds = &figures["guests"][1]["kinds"];
+    for (kind, commands, errors, bytes) in [
+        ("read", 10, 0, 40960),
+        ("write", 10, 0, 40960),
+        ("flush", 1, 0, 0),
+        ("write_zeroes", 1, 0, 0),
+        ("compare", 1, 1, 0),
+        ("dataset_management", 0, 0, 0),
+    ] {
+        let wanted = serde_json::json!({ "commands": commands, "errors": errors, "bytes": bytes });
+        assert_eq!(kinds[kind], wanted, "{kind}: {figures}");
+    }
+    let latency = &figures["guests"][1]["latency"];
+    for (group, count) in [("read", 10), ("write", 10), ("other", 3)] {
+        assert_eq!(latency[group]["count"], count);
+        let mean = latency[group]["sum"].as_u64().unwrap() / count;
+        assert!((500..1_000_000_000).contains(&mean), "{group}: {mean} ns");
+    }
+    let interrupts = figures["guests"][1]["interrupts"].as_u64().unwrap();
+    assert!(interrupts >= 24, "{interrupts}");
+    assert_eq!(figures["lanes"][0]["commands"], 23);
+    assert_eq!(figures["guests"][0]["kinds"]["read"]["commands"], 0);
+    let (status, text, _) = ctl(&folder, &["figures", "prometheus"]);
+    assert_eq!(status, 0);
+    assert!(
+        text.contains("\nnvmed_host_commands_total{guest=\"1\",kind=\"read\"} 10\n"),
+        "{text}"
+    );
+    let (status, text, _) = ctl(&folder, &["figures"]);
+    assert_eq!(status, 0);
+    assert!(text.starts_with("guest  reads"), "{text}");
+    assert_eq!(ctl(&folder, &["figures", "xml"]).0, 2);
+    let (status, text, _) = ctl(&folder, &["top", "2"]);
+    assert_eq!((status, text.matches("drive good\n").count()), (0, 2), "{text}");
+    assert_eq!(ctl(&folder, &["top", "0"]).0, 2);
+}

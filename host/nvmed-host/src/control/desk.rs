@@ -7,9 +7,10 @@ use std::time::{Duration, Instant};
 
 use serde_json::{json, Value};
 
-use super::request::{Request, RequestError, VERSION};
-use crate::board::{Board, Phase};
+use super::request::{Format, Request, RequestError, VERSION};
+use crate::board::{Board, LaneBoard, Phase};
 use crate::config::{Config, Connection, DriveConfig};
+use crate::figures::{json as figures, prometheus};
 use crate::mediation::orders::Orders;
 use crate::mediation::Stop;
 
@@ -126,6 +127,16 @@ impl Desk {
     pub fn answer(&self, request: Request, now: Instant) -> Answer {
         match request {
             Request::State => Answer::Now(reply("state", self.state(now))),
+            Request::Figures(format) => {
+                let since = now.saturating_duration_since(self.facts.began).as_secs_f64();
+                Answer::Now(reply(
+                    "figures",
+                    match format {
+                        Format::Json => figures(&self.board, since),
+                        Format::Prometheus => json!({ "text": prometheus(&self.board, since) }),
+                    },
+                ))
+            }
             Request::Drain { wait } => {
                 self.orders.drain(true);
                 Answer::Drain(now + wait)
@@ -143,7 +154,7 @@ impl Desk {
     pub fn drained(&self, until: Instant, now: Instant) -> Option<String> {
         let drained = self.board.phase() == Phase::Drained;
         let given_up = !self.orders.is_draining() || now >= until;
-        let under_way: u32 = self.board.lanes.iter().map(crate::board::LaneBoard::flying).sum();
+        let under_way: u32 = self.board.lanes.iter().map(LaneBoard::flying).sum();
         (drained || given_up).then(|| reply("drain", json!({ "drained": drained, "in_flight": under_way })))
     }
 

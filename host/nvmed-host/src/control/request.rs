@@ -18,11 +18,23 @@ const MOST_WAIT: u64 = 600;
 /// Characters of a word that an error repeats.
 const SHOWN: usize = 40;
 
+/// How figures are given.
+#[derive(Clone, Copy, Debug, Default, PartialEq, Eq)]
+pub enum Format {
+    /// As JSON.
+    #[default]
+    Json,
+    /// As a text in Prometheus' format.
+    Prometheus,
+}
+
 /// What is asked for.
 #[derive(Clone, Copy, Debug, PartialEq, Eq)]
 pub enum Request {
     /// What guests, lanes and the drive are at.
     State,
+    /// How many commands guests had, and how long they took.
+    Figures(Format),
     /// No commands of guests are taken any more. The reply comes where all that were taken have run out, or after so long.
     Drain {
         /// The longest wait for the reply: at most ten minutes.
@@ -35,7 +47,7 @@ pub enum Request {
 }
 
 /// The names of all requests, for messages.
-const NAMES: &str = "state, drain, resume and end";
+const NAMES: &str = "state, figures, drain, resume and end";
 
 /// What is wrong with a line.
 #[derive(Clone, Debug, PartialEq, Eq, thiserror::Error)]
@@ -146,6 +158,16 @@ impl Request {
         let name = fields.text("request")?.ok_or(RequestError::Missing("request"))?;
         let request = match name.as_str() {
             "state" => Self::State,
+            "figures" => Self::Figures(match fields.text("format")?.as_deref() {
+                None | Some("json") => Format::Json,
+                Some("prometheus") => Format::Prometheus,
+                Some(_) => {
+                    return Err(RequestError::Value {
+                        field: "format",
+                        wanted: String::from("name of a format: there are \"json\" and \"prometheus\""),
+                    })
+                }
+            }),
             "drain" => Self::Drain {
                 wait: Duration::from_secs(fields.number("wait", MOST_WAIT)?.unwrap_or(WAIT)),
             },

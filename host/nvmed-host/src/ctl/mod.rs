@@ -4,6 +4,7 @@
 
 #![forbid(unsafe_code)]
 
+mod looks;
 mod tables;
 #[cfg(test)]
 mod tests;
@@ -11,6 +12,7 @@ mod tests;
 use std::io::{self, BufRead, BufReader, ErrorKind, Read, Write};
 use std::os::unix::net::UnixStream;
 use std::path::{Path, PathBuf};
+use std::thread;
 use std::time::Duration;
 
 use serde_json::{json, Value};
@@ -19,6 +21,8 @@ use crate::control::request::VERSION;
 
 /// How long a reply is waited for, beside what the request itself waits for.
 const PATIENCE: Duration = Duration::from_secs(10);
+/// Between two looks of `top`.
+const SECOND: Duration = Duration::from_secs(1);
 /// The most bytes of a reply.
 const MOST_REPLY: u64 = 16 << 20;
 
@@ -27,6 +31,10 @@ const MOST_REPLY: u64 = 16 << 20;
 pub enum Words {
     /// `state`
     State,
+    /// `figures`
+    Figures,
+    /// `figures prometheus`
+    Prometheus,
     /// `drain [SECONDS]`
     Drain(Option<u64>),
     /// `resume`
@@ -87,6 +95,7 @@ impl Words {
     fn name(&self) -> &'static str {
         match self {
             Self::State => "state",
+            Self::Figures | Self::Prometheus => "figures",
             Self::Drain(_) => "drain",
             Self::Resume => "resume",
             Self::End => "end",
@@ -95,8 +104,10 @@ impl Words {
 
     fn request(&self) -> Value {
         let mut request = json!({ "version": VERSION, "request": self.name() });
-        if let Self::Drain(Some(seconds)) = self {
-            request["wait"] = json!(seconds);
+        match self {
+            Self::Drain(Some(seconds)) => request["wait"] = json!(seconds),
+            Self::Prometheus => request["format"] = json!("prometheus"),
+            _ => {}
         }
         request
     }
@@ -117,6 +128,8 @@ impl Words {
         };
         match self {
             Self::State => said(&tables::state(reply)),
+            Self::Figures => said(&looks::totals(reply)),
+            Self::Prometheus => said(reply["text"].as_str().unwrap_or_default()),
             Self::Resume => said("commands are taken again\n"),
             Self::End => said("the program ends\n"),
             Self::Drain(_) => match reply["drained"].as_bool() {
@@ -186,6 +199,29 @@ impl Asker {
             _ => Err(CtlError::Strange),
         }
     }
+}
+
+/// Shows what guests do each second, so many times or until the end, on `out`: with `clear` each time on a cleared terminal.
+///
+/// # Errors
+///
+/// See [`CtlError`]. Where `out` can't be written it ends well: its reader is gone.
+pub fn top(socket: &Path, times: Option<u64>, clear: bool, out: &mut dyn Write) -> Result<(), CtlError> {
+    let mut asker = Asker::connect(socket)?;
+    let mut before = asker.ask(&Words::Figures)?;
+    let mut left = times;
+    while left != Some(0) {
+        thread::sleep(SECOND);
+        let now = asker.ask(&Words::Figures)?;
+        let begin = if clear { "\x1b[H\x1b[2J" } else { "" };
+        let text = format!("{begin}{}\n", looks::rates(&now, &before));
+        if out.write_all(text.as_bytes()).and_then(|()| out.flush()).is_err() {
+            return Ok(());
+        }
+        before = now;
+        left = left.map(|left| left - 1);
+    }
+    Ok(())
 }
 
 /// Asks a running program: what there is to print. With `json` that is what the reply has, as one line.

@@ -114,3 +114,57 @@ guest  state    client  memory  blocks  share  in flight
         .text
         .starts_with("nvmed-host -, over library -, not proved;"));
 }
+
+/// Figures with so many reads of 4 KiB, of which each tenth took 2 ms, and the others 100 us.
+fn figures(seconds: f64, tens: u64) -> Value {
+    json!({
+        "seconds": seconds,
+        "drive": { "state": "good" },
+        "guests": [{
+            "guest": 0, "state": "enabled", "in_flight": 3, "interrupts": 2 * tens,
+            "kinds": { "read": { "commands": 10 * tens, "errors": tens, "bytes": 40960 * tens }, "flush": { "commands": tens } },
+            "latency": { "read": { "count": 10 * tens, "sum": 2_900_000 * tens, "buckets": [[114_688, 9 * tens], [2_097_152, tens]] } },
+        }],
+    })
+}
+
+#[test]
+fn figures_as_tables() {
+    let wanted = "\
+guest  reads   bytes  writes  bytes  others  errors  interrupts
+    0    100  409600       0      0      10      10          20
+
+guest  kind  commands   mean    50%    99%  99.9%  longest
+    0  read       100  290us  115us  2.1ms  2.1ms    2.1ms
+";
+    assert_eq!(Words::Figures.said(&figures(5.0, 10)).text, wanted);
+    assert_eq!(Words::Prometheus.said(&json!({ "text": "a 1\n" })).text, "a 1\n");
+    let wanted = "\
+drive good
+guest  state    in flight  reads/s  MiB/s    50%    99%  writes/s  MiB/s  50%  99%  others/s  errors/s  interrupts/s
+    0  enabled          3      500    2.0  115us  2.1ms         0    0.0    -    -        50        50           100
+";
+    assert_eq!(looks::rates(&figures(7.0, 110), &figures(5.0, 10)), wanted);
+    // another program began on the socket meanwhile
+    let text = looks::rates(&figures(1.0, 1), &figures(5.0, 10));
+    let words: Vec<&str> = text.lines().last().unwrap().split_whitespace().collect();
+    assert_eq!(words[3..7], ["0", "0.0", "-", "-"]);
+    assert!(looks::rates(&json!({}), &json!({})).starts_with("drive -\n"));
+}
+
+#[test]
+fn times_to_three_digits() {
+    for (nanos, wanted) in [
+        (0, "0.0us"),
+        (1024, "1.0us"),
+        (99_999, "100.0us"),
+        (100_000, "100us"),
+        (1_234_567, "1.2ms"),
+        (99_900_000, "99.9ms"),
+        (123_456_789, "123ms"),
+        (137_438_953_472, "137.4s"),
+        (u64::MAX, "longer"),
+    ] {
+        assert_eq!(looks::time(nanos), wanted);
+    }
+}

@@ -335,11 +335,19 @@ impl Guest {
             self.take_news(news)?;
             self.function.deliver()?;
             self.function.resampled()?;
+            self.show_interrupts();
             connection.ready(found)?;
             while let Some((request, ticket)) = connection.next_request()? {
                 self.answer(&mut connection, request, ticket)?;
             }
             connection.check(Instant::now())?;
+        }
+    }
+
+    /// Shows how many eventfds of its clients were written.
+    fn show_interrupts(&self) {
+        if let Some(shown) = self.board.guests.get(self.number) {
+            shown.figures.interrupts.set(self.function.interrupts().sent());
         }
     }
 

@@ -165,7 +165,8 @@ impl<S: Side> Mediation<S> {
     /// Those of the drive. It is closed then.
     pub fn new(mut parts: Parts<S>) -> Result<Self, DriveError> {
         let now = Instant::now();
-        let lanes = Lanes::new(&mut parts.side, parts.lanes, parts.posts.len(), parts.window, now);
+        let board = Arc::clone(&parts.board);
+        let lanes = Lanes::new(&mut parts.side, parts.lanes, parts.window, board, now);
         if let Err(error) = parts.drive.create_lanes(&lanes.rings()) {
             // the first error is the one that counts
             let _second = parts.drive.close();
@@ -227,11 +228,10 @@ impl<S: Side> Mediation<S> {
         let result = if stirred || self.due || self.recovering || self.lanes.are_flying() {
             self.work(now)
         } else {
-            Ok(false)
+            Ok((false, now))
         };
-        let result = result.and_then(|worked| {
+        let result = result.and_then(|(worked, end)| {
             if stirred || worked {
-                let end = if worked { Instant::now() } else { now };
                 let sent = self.clients.iter_mut().map(Client::take_sent).max();
                 self.pace.note(now, end, sent.unwrap_or(0));
                 self.show();
@@ -265,7 +265,7 @@ impl<S: Side> Mediation<S> {
 
     /// Shows what the thread is at.
     fn show(&self) {
-        self.lanes.show(&self.board);
+        self.lanes.show();
         self.board.drive.show_state(match self.disk {
             Disk::Good(_) if self.recovering => DriveState::Reset,
             Disk::Good(_) => DriveState::Good,
@@ -293,23 +293,30 @@ impl<S: Side> Mediation<S> {
         any
     }
 
-    /// Carries out what is due, until nothing is or the slice is over. Whether something was done.
-    fn work(&mut self, begin: Instant) -> Result<bool, Failure> {
+    /// Carries out what is due, until nothing is or the slice is over. Whether something was done, and when the last of it was.
+    fn work(&mut self, begin: Instant) -> Result<(bool, Instant), Failure> {
         let mut any = false;
+        let mut now = begin;
         loop {
-            let done = self.pass(begin)?;
-            any |= done;
+            let done = self.pass(now)?;
             self.due = done;
-            if !done || begin.elapsed() >= SLICE {
-                return Ok(any);
+            if !done {
+                return Ok((any, now));
+            }
+            any = true;
+            now = later(begin);
+            if now.saturating_duration_since(begin) >= SLICE {
+                return Ok((any, now));
             }
         }
     }
 
     /// Each guest gets a piece of work, then the drive, then each lane.
     fn pass(&mut self, now: Instant) -> Result<bool, Failure> {
-        let guests = self.work_guests()?;
+        let guests = self.work_guests(now)?;
         let (drive, more) = self.work_drive(now)?;
+        // what the drive has answered meanwhile was answered by now
+        let now = if self.lanes.are_flying() { later(now) } else { now };
         let lanes = self.work_lanes(now)?;
         if lanes {
             self.ring(now)?;
@@ -323,7 +330,7 @@ impl<S: Side> Mediation<S> {
         Ok(guests || drive || more || lanes)
     }
 
-    fn work_guests(&mut self) -> Result<bool, Failure> {
+    fn work_guests(&mut self, now: Instant) -> Result<bool, Failure> {
         let mut any = false;
         for client in &mut self.clients {
             if !client.is_due() {
@@ -342,7 +349,7 @@ impl<S: Side> Mediation<S> {
                 if worked.done != 0 {
                     any = true;
                     let counts = &mut self.counts;
-                    sent = self.lanes.note_sent(&mut self.side, guest, &mut |entry| {
+                    sent = self.lanes.note_sent(&mut self.side, guest, now, &mut |entry| {
                         if let Some(counts) = counts {
                             counts.note(guest, entry);
                         }
@@ -529,6 +536,11 @@ impl<S: Side> Mediation<S> {
             pause
         }
     }
+}
+
+/// The time now, which is not before that one.
+fn later(than: Instant) -> Instant {
+    Instant::now().max(than)
 }
 
 #[cfg(test)]

@@ -15,6 +15,7 @@ use crate::board::GuestState;
 use crate::doorbells::Page;
 use crate::drive::nvme::Recover;
 use crate::drive::{LaneRings, Progress};
+use crate::figures::{Group, Kind};
 use crate::interrupts::VectorSet;
 use crate::pci::VERSION_1_3;
 
@@ -515,6 +516,10 @@ fn fails(manner: Manner, at_least: Duration) {
     let state = rig.fake.state();
     assert!(state.closed && state.lanes_closed, "{manner:?}");
     assert!(rig.board.lanes[0].is_closed());
+    let reads = rig.board.guests[0].figures.of(Kind::Read);
+    // one drive fails after its answer
+    let errors = u64::from(manner != Manner::FailsAtCheck);
+    assert_eq!((reads.commands.get(), reads.errors.get()), (1, errors), "{manner:?}");
     rig.board.drive.open("a drive");
     assert_eq!(rig.board.drive.state(), DriveState::Failed);
     assert_eq!(
@@ -622,6 +627,40 @@ fn an_idle_thread_sleeps() {
     assert_eq!(mediation.pause(later), TICK, "its controller is disabled");
 }
 
+#[test]
+fn figures_are_of_what_the_drive_has_answered() {
+    let mut rig = Rig::new(Manner::Silent, 2);
+    rig.enable(1);
+    rig.send(1, &[RING, RING]);
+    let begin = Instant::now();
+    rig.turn(begin);
+    let figures = |rig: &Rig| {
+        let read = rig.board.guests[1].figures.of(Kind::Read);
+        (read.commands.get(), read.errors.get(), read.bytes.get())
+    };
+    assert_eq!((figures(&rig), rig.board.guests[1].flying()), ((0, 0, 0), 2));
+    // the first one has a status, and the second one none
+    let completions = [(0u32, 0x0281u32 << 17 | 1 << 16), (1, 1 << 16)];
+    for (slot, (identifier, status)) in (0..).zip(completions) {
+        let at = AT.completion + 16 * slot + 12;
+        let dword = (status | identifier).to_le_bytes();
+        rig.fake.window.slice(at, 4).unwrap().write_slice(&dword, 0).unwrap();
+    }
+    rig.fake.state().completed = 2;
+    let later = begin + Duration::from_secs(2);
+    rig.turn(later);
+    assert_eq!((figures(&rig), rig.board.guests[1].flying()), ((2, 1, 512), 0));
+    let times = rig.board.guests[1].figures.times(Group::Read).read();
+    assert_eq!(times.count(), 2);
+    assert!(
+        times.nanos >= 4_000_000_000 && times.nanos < 5_000_000_000,
+        "{}",
+        times.nanos
+    );
+    assert_eq!(rig.board.lanes[0].commands.get(), 2);
+    assert_eq!(rig.board.guests[0].figures.of(Kind::Read).commands.get(), 0);
+}
+
 /// What was taken runs out, and what waits is taken after the end of the drain. Admin commands go on.
 #[test]
 fn a_drain_takes_nothing_more() {
@@ -663,7 +702,7 @@ fn a_drain_in_the_middle_of_a_guests_work() {
     let mediation = rig.mediation.as_mut().unwrap();
     mediation.listen();
     rig.fake.state().waiting.insert(0, EVENTS as u32);
-    assert!(mediation.work_guests().unwrap());
+    assert!(mediation.work_guests(Instant::now()).unwrap());
     assert_eq!(rig.waiting(0), 0);
     rig.orders.drain(true);
     let mediation = rig.mediation.as_mut().unwrap();

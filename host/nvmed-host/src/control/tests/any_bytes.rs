@@ -24,7 +24,9 @@ impl Random {
 
 /// A line that is a request, or nearly one.
 fn example(random: &mut Random) -> Vec<u8> {
-    const PARTS: [&str; 16] = [
+    const PARTS: [&str; 18] = [
+        "\"request\":\"figures\"",
+        "\"format\":\"prometheus\"",
         "\"version\":1",
         "\"version\":1",
         "\"version\":1",

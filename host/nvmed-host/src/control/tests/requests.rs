@@ -2,7 +2,7 @@
 
 use std::time::Duration;
 
-use crate::control::request::{Request, MOST_LINE};
+use crate::control::request::{Format, Request, MOST_LINE};
 
 fn said(line: &str) -> String {
     match Request::parse(line.as_bytes()) {
@@ -19,6 +19,15 @@ fn each_request() {
     for (line, request) in [
         (r#"{"version":1,"request":"state"}"#, Request::State),
         (" {\"request\" : \"state\", \"version\" : 1} \r", Request::State),
+        (r#"{"version":1,"request":"figures"}"#, Request::Figures(Format::Json)),
+        (
+            r#"{"version":1,"request":"figures","format":"json"}"#,
+            Request::Figures(Format::Json),
+        ),
+        (
+            r#"{"version":1,"request":"figures","format":"prometheus"}"#,
+            Request::Figures(Format::Prometheus),
+        ),
         (r#"{"version":1,"request":"drain"}"#, wait(30)),
         (r#"{"version":1,"request":"drain","wait":0}"#, wait(0)),
         (r#"{"version":1,"request":"drain","wait":600}"#, wait(600)),
@@ -83,6 +92,8 @@ fn what_is_wrong_is_said() {
     ] {
         assert_eq!(said(line), words, "{line}");
     }
+    let format = "the field \"format\" is no name of a format: there are \"json\" and \"prometheus\"";
+    assert_eq!(said(r#"{"version":1,"request":"figures","format":"text"}"#), format);
     assert!(said(r#"{"version":1,"request":"stat"}"#).starts_with("there is no request \"stat\": there are state, "));
     let long = "x".repeat(100);
     let unknown = said(&format!(r#"{{"version":1,"request":"{long}"}}"#));
