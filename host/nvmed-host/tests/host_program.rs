@@ -25,6 +25,7 @@ fn words_and_statuses() {
         "drive vfio",
         "lanes N",
         "spin N",
+        "control PATH",
         "guest G memory SIZE [FILE]",
         "extent G BASE BLOCKS",
         "share G TAGS",

@@ -29,6 +29,7 @@ pub(super) struct Draft {
     pub drive: Option<Said<DriveConfig>>,
     pub lanes: Option<u32>,
     pub spin: Option<Duration>,
+    pub control: Option<Said<PathBuf>>,
     pub guests: Vec<GuestDraft>,
 }
 
@@ -59,7 +60,7 @@ struct Kind {
     act: fn(&mut Draft, u32, &[Vec<u8>]) -> Outcome,
 }
 
-const KINDS: [Kind; 15] = [
+const KINDS: [Kind; 16] = [
     Kind {
         name: "guest",
         least: 4,
@@ -149,6 +150,12 @@ const KINDS: [Kind; 15] = [
         least: 2,
         most: 2,
         act: Draft::on_spin,
+    },
+    Kind {
+        name: "control",
+        least: 2,
+        most: 2,
+        act: Draft::on_control,
     },
 ];
 
@@ -338,6 +345,9 @@ impl Draft {
     fn on_listen(&mut self, line: u32, words: &[Vec<u8>]) -> Outcome {
         let index = self.guest_index(words)?;
         let value = path("the socket", word(words, 2), MOST_SOCKET)?;
+        if self.control.as_ref().is_some_and(|control| control.value == value) {
+            return Err(String::from("this is the control socket of a former line"));
+        }
         let same = |g: &GuestDraft| g.listen.as_ref().is_some_and(|other| other.value == value);
         let taken = self.guests.iter().position(same);
         let guest = self.guest(index)?;
@@ -427,6 +437,18 @@ impl Draft {
     fn on_spin(&mut self, _line: u32, words: &[Vec<u8>]) -> Outcome {
         once(&self.spin, "the spin stands")?;
         self.spin = Some(Duration::from_micros(number("the spin", word(words, 1), 0, 1_000_000)?));
+        Ok(())
+    }
+
+    /// `control PATH`
+    fn on_control(&mut self, line: u32, words: &[Vec<u8>]) -> Outcome {
+        once(&self.control, "the control socket stands")?;
+        let value = path("the control socket", word(words, 1), MOST_SOCKET)?;
+        let same = |g: &GuestDraft| g.listen.as_ref().is_some_and(|other| other.value == value);
+        if let Some(guest) = self.guests.iter().position(same) {
+            return Err(format!("guest {guest} listens on this socket already"));
+        }
+        self.control = Some(Said { value, line });
         Ok(())
     }
 

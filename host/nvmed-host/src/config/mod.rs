@@ -216,6 +216,15 @@ impl GuestConfig {
     }
 }
 
+/// The control socket: `control PATH`.
+#[derive(Clone, Debug, PartialEq, Eq)]
+pub struct ControlConfig {
+    /// Where it listens.
+    pub path: PathBuf,
+    /// Where it was written.
+    pub line: u32,
+}
+
 /// A configuration.
 #[derive(Clone, Debug, PartialEq, Eq)]
 pub struct Config {
@@ -227,6 +236,8 @@ pub struct Config {
     pub lanes: u32,
     /// How long the program goes on without a pause after its last event: at most a second.
     pub spin: Duration,
+    /// Where operators' requests are taken, if they are.
+    pub control: Option<ControlConfig>,
     /// The guests: 1 to 16.
     pub guests: Vec<GuestConfig>,
 }

@@ -5,6 +5,7 @@ use std::os::unix::ffi::OsStrExt;
 use super::*;
 
 mod any_bytes;
+mod control;
 
 const GOOD: &str = r#"# two guests
 drive ram 1M /var/tmp/disk   # 2,048 blocks

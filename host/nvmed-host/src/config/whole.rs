@@ -4,7 +4,9 @@
 use std::time::Duration;
 
 use super::lines::{Draft, GuestDraft, Said};
-use super::{Config, Connection, Doorbells, DriveConfig, GuestConfig, GuestLines, Interrupts, BLOCK, TAGS};
+use super::{
+    Config, Connection, ControlConfig, Doorbells, DriveConfig, GuestConfig, GuestLines, Interrupts, BLOCK, TAGS,
+};
 use crate::machine::{Machine, QEMU_MEMORY_STEP};
 use crate::process;
 
@@ -38,6 +40,10 @@ pub(super) fn finish(draft: Draft, last: u32) -> Result<Config, Fault> {
         drive_line: drive.line,
         lanes: draft.lanes.unwrap_or(1),
         spin: draft.spin.unwrap_or(SPIN),
+        control: draft.control.map(|said| ControlConfig {
+            path: said.value,
+            line: said.line,
+        }),
         guests,
     })
 }

@@ -9,6 +9,7 @@ use super::mailbox::{Access, Receiver};
 use super::outbox::Outbox;
 use super::side::Side;
 use super::Post;
+use crate::board::{Board, GuestState};
 use crate::doorbells::Page;
 use crate::interrupts::Signals;
 use crate::pci::Registers;
@@ -21,6 +22,7 @@ const CC: u32 = 0x14;
 const CSTS: u32 = 0x1c;
 const CC_ENABLE: u32 = 1;
 const CSTS_READY: u32 = 1;
+const CSTS_FATAL: u32 = 1 << 1;
 /// The first doorbell's offset in BAR0.
 const DOORBELLS: u32 = 0x1000;
 
@@ -30,10 +32,13 @@ pub struct Client {
     mailbox: Receiver,
     outbox: Arc<Outbox>,
     signals: Arc<Signals>,
+    board: Arc<Board>,
     registers: Registers,
     page: Option<Arc<Page>>,
     /// CC.EN.
     enabled: bool,
+    /// CSTS.CFS.
+    failed: bool,
     /// Bus Master Enable.
     master: bool,
     connected: bool,
@@ -45,27 +50,38 @@ pub struct Client {
     stirred: bool,
     /// More accesses wait than were carried out.
     more: bool,
+    /// The last work on it was cut off, so that commands may be taken and not with the drive yet.
+    cut: bool,
+    /// No commands of its I/O queues are to be taken.
+    draining: bool,
+    /// None are taken, and those that were taken came to the drive.
+    held: bool,
     /// Commands that came to the drive since [`Client::take_sent`].
     sent: u64,
 }
 
 impl Client {
     /// Guest `number`, to which nobody is connected.
-    pub fn new(number: usize, post: Post) -> Self {
+    pub fn new(number: usize, post: Post, board: Arc<Board>) -> Self {
         Self {
             number,
             mailbox: post.mailbox,
             outbox: post.outbox,
             signals: post.signals,
+            board,
             registers: Registers::new(post.version),
             page: None,
             enabled: false,
+            failed: false,
             master: false,
             connected: false,
             ending: false,
             due: false,
             stirred: false,
             more: false,
+            cut: false,
+            draining: false,
+            held: false,
             sent: 0,
         }
     }
@@ -105,6 +121,31 @@ impl Client {
     pub fn note_worked(&mut self, sent: u64, more: bool) {
         self.sent += sent;
         self.due = more;
+        self.cut = more;
+        self.held |= self.draining && !more;
+    }
+
+    /// No commands of it are to be taken any more, or they are to be taken again.
+    pub fn set_drain(&mut self, on: bool) {
+        self.draining = on;
+        self.held = on && !self.cut;
+        self.due = true;
+    }
+
+    /// Whether commands that were taken are still to be brought to the drive before nothing is taken any more. Their tags are at most its shares of the lanes,
+    /// so that this ends where no tag becomes free meanwhile.
+    pub fn is_finishing(&self) -> bool {
+        self.draining && self.enabled && !self.held
+    }
+
+    /// Whether nothing is taken of its I/O queues. Its admin commands, which the mediator answers by itself, go on.
+    pub fn is_held(&self) -> bool {
+        self.held && self.enabled
+    }
+
+    /// Whether nothing of it will come to the drive as long as it is drained.
+    pub fn is_quiet(&self) -> bool {
+        !self.may_work() || if self.enabled { self.held } else { !self.due }
     }
 
     /// How many commands came to the drive since this was asked last.
@@ -161,6 +202,7 @@ impl Client {
                 self.master = false;
                 self.connected = false;
                 self.ending = true;
+                self.show();
             }
             Access::Reset => self.reset(side),
             Access::Master(on) => {
@@ -190,6 +232,21 @@ impl Client {
         self.ending = false;
         // what was posted for the client before is nothing to this one
         side.posted(self.number);
+        self.show();
+    }
+
+    /// Shows what it is at.
+    fn show(&self) {
+        let Some(guest) = self.board.guests.get(self.number) else {
+            return;
+        };
+        guest.show_state(match self {
+            Self { ending: true, .. } => GuestState::Ending,
+            Self { connected: false, .. } => GuestState::Waiting,
+            Self { failed: true, .. } => GuestState::Failed,
+            Self { enabled: true, .. } => GuestState::Enabled,
+            _ => GuestState::Connected,
+        });
     }
 
     /// The controller is disabled. What it had runs out, and nothing is fetched any more.
@@ -217,7 +274,12 @@ impl Client {
         self.registers.note_write(offset, value);
         side.write(self.number, offset, value);
         if offset == CC {
-            self.enabled = side.read(self.number, CC) & CC_ENABLE != 0;
+            let enabled = side.read(self.number, CC) & CC_ENABLE != 0;
+            // a controller that was just enabled has no I/O queue of which something could have been taken
+            self.held = self.draining && (self.held || enabled && !self.enabled);
+            self.enabled = enabled;
+            self.failed = side.read(self.number, CSTS) & CSTS_FATAL != 0;
+            self.show();
         }
         self.due = true;
     }
@@ -236,6 +298,7 @@ impl Client {
     pub fn note_end(&mut self, side: &mut dyn Side) {
         if self.ending && side.read(self.number, CSTS) & CSTS_READY == 0 {
             self.ending = false;
+            self.show();
             self.outbox.run_out();
         }
     }
