@@ -22,6 +22,7 @@ use crate::control::Control;
 use crate::drive::file::FileDrive;
 use crate::drive::nvme::Needs;
 use crate::drive::opening::{Open, OpeningDrive, Tell};
+use crate::drive::passthrough::PassthroughDrive;
 use crate::drive::prp::SharedMemory;
 use crate::drive::qtest::FoundQemu;
 use crate::drive::ram::RamDrive;
@@ -461,7 +462,9 @@ fn raise_limits() {
 
 fn plan(config: &Config) -> Result<Layout, HostError> {
     match &config.drive {
-        DriveConfig::Ram { .. } | DriveConfig::File { .. } => Ok(Layout::plan(config, Room::Reaches(&[ALL]))?),
+        DriveConfig::Ram { .. } | DriveConfig::File { .. } | DriveConfig::Nvme { .. } => {
+            Ok(Layout::plan(config, Room::Reaches(&[ALL]))?)
+        }
         DriveConfig::Qemu { memory, .. } => {
             let line = config.drive_line;
             let file = GuestFile::existing(memory).map_err(|error| HostError::DriveFile { line, error })?;
@@ -579,6 +582,10 @@ fn find_drive(config: &Config, layout: &Layout, window: &Arc<Window>) -> Result<
         DriveConfig::File { path } => {
             let blocks = config.blocks();
             Box::new(move || Ok(Box::new(FileDrive::open(memory, &path, blocks)?)))
+        }
+        DriveConfig::Nvme { path } => {
+            let blocks = config.blocks();
+            Box::new(move || Ok(Box::new(PassthroughDrive::open(memory, &path, blocks)?)))
         }
         DriveConfig::Qemu { socket, .. } => {
             let found = FoundQemu::at(&socket, reached, needs)?;

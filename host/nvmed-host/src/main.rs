@@ -30,6 +30,7 @@ The configuration has plain lines; '#' begins a comment, and a word in quotes ma
 
   drive ram SIZE [FILE]       a simulated drive, in memory or in a file
   drive file PATH             a file or a block device, by io_uring and direct I/O
+  drive nvme /dev/ng0n1       an NVMe namespace that the kernel drives, by io_uring's passthrough commands
   drive qemu SOCKET FILE      the controller of a QEMU: its qtest socket, and the file that is the first part of its RAM
   drive vfio 0000:01:00.0     a controller that is bound to vfio-pci
   lanes N                     pairs of queues of the drive, 1 to 8 (1)

@@ -21,6 +21,7 @@ fn words_and_statuses() {
     for line in [
         "drive ram SIZE [FILE]",
         "drive file PATH",
+        "drive nvme /dev/ng0n1",
         "drive qemu",
         "drive vfio",
         "lanes N",

@@ -394,7 +394,7 @@ impl Draft {
         Ok(())
     }
 
-    /// `drive ram SIZE [FILE]`, `drive file PATH`, `drive qemu SOCKET FILE` or `drive vfio ADDRESS`
+    /// `drive ram SIZE [FILE]`, `drive file PATH`, `drive nvme PATH`, `drive qemu SOCKET FILE` or `drive vfio ADDRESS`
     fn on_drive(&mut self, line: u32, words: &[Vec<u8>]) -> Outcome {
         once(&self.drive, "the drive stands")?;
         let value = match (word(words, 1), words.get(3)) {
@@ -406,6 +406,10 @@ impl Draft {
                 path: self.new_file("the drive", word(words, 2))?,
             },
             (b"file", Some(_)) => return Err(String::from("'drive file' has one path")),
+            (b"nvme", None) => DriveConfig::Nvme {
+                path: self.new_file("the drive", word(words, 2))?,
+            },
+            (b"nvme", Some(_)) => return Err(String::from("'drive nvme' has one path")),
             (b"qemu", Some(memory)) => DriveConfig::Qemu {
                 socket: path("the socket", word(words, 2), MOST_SOCKET)?,
                 memory: self.new_file("the drive's memory", memory)?,
@@ -417,7 +421,7 @@ impl Draft {
             },
             (kind, _) => {
                 return Err(format!(
-                    "the drive is none of ram, file, qemu and vfio: {}",
+                    "the drive is none of ram, file, nvme, qemu and vfio: {}",
                     shown(kind)
                 ))
             }
@@ -478,7 +482,7 @@ impl Draft {
         let new = path(what, text, MOST_PATH)?;
         let of_drive = match self.drive.as_ref().map(|drive| &drive.value) {
             Some(DriveConfig::Ram { image, .. }) => image.as_ref(),
-            Some(DriveConfig::File { path }) => Some(path),
+            Some(DriveConfig::File { path } | DriveConfig::Nvme { path }) => Some(path),
             Some(DriveConfig::Qemu { memory, .. }) => Some(memory),
             Some(DriveConfig::Vfio { .. }) | None => None,
         };

@@ -104,6 +104,11 @@ pub enum DriveConfig {
         /// Where it is.
         path: PathBuf,
     },
+    /// A namespace that the kernel drives: `drive nvme PATH`.
+    Nvme {
+        /// Its generic character device.
+        path: PathBuf,
+    },
     /// The controller of a QEMU: `drive qemu SOCKET FILE`.
     Qemu {
         /// Where its qtest listens.

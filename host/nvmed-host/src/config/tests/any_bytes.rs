@@ -19,9 +19,10 @@ impl Random {
 
 /// Lines, most of them good, in any order.
 fn example(random: &mut Random) -> Vec<u8> {
-    const LINES: [&str; 27] = [
+    const LINES: [&str; 28] = [
         "drive ram 1M /a\n",
         "drive file /f\n",
+        "drive nvme /n\n",
         "drive qemu /s /m\n",
         "drive vfio 0000:01:00.0\n",
         "lanes 2\n",

@@ -6,6 +6,7 @@ mod order;
 mod real;
 
 use super::*;
+use crate::drive::ring::Ring;
 use crate::drive::testing::*;
 
 use self::fake::{Asked, Call, Control, FakeRing, Fault};

@@ -6,7 +6,7 @@ use std::path::PathBuf;
 
 use super::*;
 
-type RealRig = Rig<FileDrive<Memory, Uring<Memory>>>;
+type RealRig = Rig<FileDrive<Memory, FileUring<Memory>>>;
 
 /// A file of so many blocks in a folder.
 fn image(folder: &Folder, blocks: u64) -> PathBuf {
