@@ -123,6 +123,8 @@ pub struct Mediation<S: Side> {
     due: bool,
     /// Of a lane more may be due.
     busy: bool,
+    /// Guests were told something since the thread last let others run.
+    told: bool,
     /// The drive is being reset.
     recovering: bool,
     /// When the drive was checked last.
@@ -157,6 +159,7 @@ impl<S: Side> Mediation<S> {
             pace: Pace::new(parts.spin, now),
             due: false,
             busy: false,
+            told: false,
             recovering: false,
             ticked: now,
             faults: crate::memory::fault::all(),
@@ -252,6 +255,7 @@ impl<S: Side> Mediation<S> {
             }
             client.tell(&mut self.side, guests || lanes);
         }
+        self.told |= guests || lanes;
         Ok(guests || drive || more || lanes)
     }
 
@@ -394,9 +398,14 @@ impl<S: Side> Mediation<S> {
     fn rest(&mut self, now: Instant) {
         let pause = self.pause(now);
         if pause.is_zero() {
+            // the guest's thread that tells its client may have no other processor
+            if std::mem::take(&mut self.told) {
+                std::thread::yield_now();
+            }
             std::hint::spin_loop();
             return;
         }
+        self.told = false;
         self.bell.lie_down();
         if self.clients.iter().any(Client::has_mail) || self.stop.load(Ordering::SeqCst) {
             self.bell.get_up();
