@@ -149,6 +149,8 @@ pub struct Mediation<S: Side> {
     due: bool,
     /// Of a lane more may be due.
     busy: bool,
+    /// Guests were told something since the thread last let others run.
+    told: bool,
     /// The drive is being reset.
     recovering: bool,
     /// When the drive was checked last.
@@ -189,6 +191,7 @@ impl<S: Side> Mediation<S> {
             draining: false,
             due: false,
             busy: false,
+            told: false,
             recovering: false,
             ticked: now,
             faults: crate::memory::fault::all(),
@@ -327,6 +330,7 @@ impl<S: Side> Mediation<S> {
             }
             client.tell(&mut self.side, guests || lanes);
         }
+        self.told |= guests || lanes;
         Ok(guests || drive || more || lanes)
     }
 
@@ -486,9 +490,14 @@ impl<S: Side> Mediation<S> {
     fn rest(&mut self, now: Instant) {
         let pause = self.pause(now);
         if pause.is_zero() {
+            // the guest's thread that tells its client may have no other processor
+            if std::mem::take(&mut self.told) {
+                std::thread::yield_now();
+            }
             std::hint::spin_loop();
             return;
         }
+        self.told = false;
         self.bell.lie_down();
         if self.clients.iter().any(Client::has_mail) || self.stop.is_asked() || self.is_ordered() {
             self.bell.get_up();
