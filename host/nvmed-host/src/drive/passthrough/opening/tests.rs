@@ -4,7 +4,7 @@ use std::os::unix::fs::symlink;
 
 use super::*;
 use crate::drive::nvme::bytes::put;
-use crate::drive::testing::Folder;
+use crate::drive::testing::{Folder, Random};
 
 /// A folder that has of sysfs what is looked at: the generic device 240:3 of the namespace whose block device is 259:7.
 fn sysfs(folder: &Folder, name: &str, kind: &str, most_kib: &str, most_pieces: &str) -> PathBuf {
@@ -190,4 +190,42 @@ fn a_drive_that_is_not_as_it_has_to_be_is_refused() {
             "{said}"
         );
     }
+}
+
+/// Whatever the drive says of itself: it is refused, or is as the rest of the program takes it.
+#[test]
+fn random_pages() {
+    let mut random = Random::new(17);
+    let mut taken = 0;
+    for _ in 0..5000 {
+        let mut pages = pages();
+        for page in &mut pages {
+            for _ in 0..random.below(8) {
+                let place = match random.below(4) {
+                    0 => random.below(4096),
+                    _ => [0, 1, 3, 4, 8, 33, 26, 77, 99, 128, 130, 520][random.below(12) as usize],
+                };
+                page[place as usize] = random.next() as u8;
+            }
+        }
+        let status = random.next() as u32 & 0x1_ffff;
+        let refused = |cns| (cns == random_cns(status)).then_some(Ok(status));
+        if let Ok((found, abilities)) = looked(&pages, refused) {
+            taken += 1;
+            assert!(found.namespace.blocks >= 4096 && found.namespace.blocks.checked_mul(512).is_some());
+            assert!(abilities
+                .write_zeroes
+                .is_none_or(|blocks| (1..=65_536).contains(&blocks)));
+            assert!(abilities.piece() >= 512 && abilities.piece() % 512 == 0);
+            assert!(abilities
+                .dataset
+                .is_none_or(|limits| limits.ranges > 0 && limits.blocks > 0));
+        }
+    }
+    assert!((500..4500).contains(&taken), "{taken} were taken");
+}
+
+/// The page that is refused, or none of them.
+fn random_cns(status: u32) -> u32 {
+    [1, 6, 6, 7][status as usize % 4]
 }
