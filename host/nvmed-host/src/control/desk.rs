@@ -42,6 +42,7 @@ impl Facts {
             drive: match config.drive {
                 DriveConfig::Ram { .. } => "ram",
                 DriveConfig::File { .. } => "file",
+                DriveConfig::Nvme { .. } => "nvme",
                 DriveConfig::Qemu { .. } => "qemu",
                 DriveConfig::Vfio { .. } => "vfio",
             },
