@@ -13,6 +13,8 @@
 //! | Flush | `fdatasync`; those that come while one is under way share the next |
 //! | Write Zeroes, Dataset Management | `fallocate`, piece by piece, one at a time, of ranges that were merged; where the file system has none, zeros are written |
 //!
+//! A file that has room for all of its bytes when it is opened keeps it: its deallocated blocks are made zero in place.
+//!
 //! A command that comes only so far goes on from there, and one that was interrupted is made again, some times. A device that is gone is answered with
 //! Namespace Not Ready, and ends all writes; so does each error by which something could not be made durable.
 
@@ -105,7 +107,7 @@ struct Clears {
     under_way: Option<(Clear, Zeroing)>,
     /// Those that wait for their turn.
     waiting: VecDeque<Clear>,
-    /// Whether the file system gives room back, and makes bytes zero in place.
+    /// Whether room is given back, which the file system can, and whether it makes bytes zero in place.
     gives_back: bool,
     in_place: bool,
 }
@@ -147,7 +149,7 @@ impl<M: SharedMemory + 'static, R: FileRing> FileDrive<M, R> {
             clears: Clears {
                 under_way: None,
                 waiting: VecDeque::new(),
-                gives_back: true,
+                gives_back: !about.keeps_room,
                 in_place: true,
             },
             pages: Vec::new(),

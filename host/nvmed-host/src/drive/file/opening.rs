@@ -4,7 +4,7 @@
 use std::fs::{self, File, FileType};
 use std::io::{Seek, SeekFrom};
 use std::os::fd::{AsFd, AsRawFd};
-use std::os::unix::fs::FileTypeExt;
+use std::os::unix::fs::{FileTypeExt, MetadataExt};
 use std::path::Path;
 
 use nix::fcntl::{fcntl, FcntlArg, Flock, OFlag};
@@ -28,6 +28,8 @@ pub struct About {
     pub blocks: u64,
     /// The alignment of buffers in memory: a power of two up to 4,096.
     pub alignment: u64,
+    /// Whether it is a file that has room for all of its bytes, which it is to keep.
+    pub keeps_room: bool,
 }
 
 /// A file or a block device that can be a drive.
@@ -52,11 +54,8 @@ impl Opened {
             .file_type();
         let kind = kind_of(before).ok_or_else(|| unusable(path, "is neither a regular file nor a block device"))?;
         let mut file = open_alone(path, before).map_err(|what| unusable(path, &what))?;
-        let now = file
-            .metadata()
-            .map_err(|e| refused("cannot be looked at", &e))?
-            .file_type();
-        if now != before {
+        let about = file.metadata().map_err(|e| refused("cannot be looked at", &e))?;
+        if about.file_type() != before {
             return Err(unusable(path, "was replaced while it was opened"));
         }
         // Operations on a descriptor that may not wait would fail where they have to.
@@ -78,6 +77,7 @@ impl Opened {
                 words,
                 blocks,
                 alignment,
+                keeps_room: before.is_file() && about.blocks().saturating_mul(512) >= bytes,
             },
         })
     }
