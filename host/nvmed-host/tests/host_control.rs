@@ -228,7 +228,7 @@ fn an_operators_words() {
     let (status, said, _) = ctl(&folder, &["state"]);
     assert_eq!(status, 0);
     assert!(
-        said.contains("guest  state    client  memory  blocks  share  in flight\n"),
+        said.contains("guest  state    client  memory  blocks  share  in flight  most iops"),
         "{said}"
     );
     assert!(said.contains("; running\ndrive ram: good: "), "{said}");
@@ -242,6 +242,29 @@ fn an_operators_words() {
         (0, "drained: nothing is taken, and nothing is under way\n")
     );
     assert_eq!(ctl(&folder, &["resume"]).0, 0);
+    let (status, said, _) = ctl(&folder, &["limit", "1", "bytes", "10M"]);
+    let words = "guest 1: as many commands as it likes, 10M bytes a second\n";
+    assert_eq!((status, said.as_str()), (0, words));
+    assert_eq!(ask(&folder, "state", "")["guests"][1]["limit"]["bytes"], 10 << 20);
+    assert_eq!(ctl(&folder, &["limit", "1", "iops", "500"]).0, 0);
+    assert_eq!(ctl(&folder, &["limit", "1", "bytes", "none"]).0, 0);
+    let limit = serde_json::json!({ "iops": 500, "bytes": null });
+    assert_eq!(ask(&folder, "state", "")["guests"][1]["limit"], limit);
+    let (status, _, said) = ctl(&folder, &["limit", "2", "iops", "500"]);
+    assert_eq!(
+        (status, said.as_str()),
+        (1, "nvmed-host: refused: there is no guest 2: there are 2\n")
+    );
+    let (status, _, said) = ctl(&folder, &["limit", "1", "bytes", "1K"]);
+    assert!(status == 1 && said.contains("whole number from 131072 to"), "{said}");
+    for wrong in [
+        &["limit"][..],
+        &["limit", "1", "iops"],
+        &["limit", "1", "iops", "0"],
+        &["limit", "1", "speed", "1"],
+    ] {
+        assert_eq!(ctl(&folder, wrong).0, 2, "{wrong:?}");
+    }
     for wrong in [
         &[][..],
         &["what"],

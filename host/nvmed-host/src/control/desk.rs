@@ -11,6 +11,7 @@ use super::request::{Format, Request, RequestError, VERSION};
 use crate::board::{Board, LaneBoard, Phase};
 use crate::config::{Config, Connection, DriveConfig};
 use crate::figures::{json as figures, prometheus};
+use crate::mediation::limits::Limit;
 use crate::mediation::orders::Orders;
 use crate::mediation::Stop;
 
@@ -99,6 +100,11 @@ pub fn full(most: usize) -> String {
     reply("error", Value::from(words))
 }
 
+/// Limits, null where there is none.
+fn limit(Limit { iops, bytes }: Limit) -> Value {
+    json!({ "iops": iops, "bytes": bytes })
+}
+
 /// Whole seconds of a time.
 fn seconds(time: Duration) -> u64 {
     time.as_secs()
@@ -136,6 +142,20 @@ impl Desk {
                         Format::Prometheus => json!({ "text": prometheus(&self.board, since) }),
                     },
                 ))
+            }
+            Request::Limit { guest, .. } if guest >= self.facts.guests.len() => {
+                let words = format!("there is no guest {guest}: there are {}", self.facts.guests.len());
+                Answer::Now(reply("error", Value::from(words)))
+            }
+            Request::Limit { guest, iops, bytes } => {
+                let before = self.orders.limit(guest);
+                let limit = Limit {
+                    iops: iops.unwrap_or(before.iops),
+                    bytes: bytes.unwrap_or(before.bytes),
+                };
+                self.orders.set_limit(guest, limit);
+                let Limit { iops, bytes } = limit;
+                Answer::Now(reply("limit", json!({ "guest": guest, "iops": iops, "bytes": bytes })))
             }
             Request::Drain { wait } => {
                 self.orders.drain(true);
@@ -197,6 +217,7 @@ impl Desk {
                 "blocks": facts.blocks,
                 "share": facts.share,
                 "in_flight": shown.flying(),
+                "limit": limit(self.orders.limit(guest)),
             })).collect::<Vec<_>>(),
         })
     }

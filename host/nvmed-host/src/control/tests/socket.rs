@@ -13,6 +13,7 @@ use crate::config::Config;
 use crate::control::connection::{HALF, MOST_REQUESTS};
 use crate::control::desk::{Desk, Facts};
 use crate::control::{Control, MOST_CLIENTS};
+use crate::mediation::limits::Limit;
 use crate::mediation::orders::Orders;
 use crate::mediation::wake::Bell;
 use crate::mediation::Stop;
@@ -36,7 +37,8 @@ impl Rig {
             guest 1 memory 4K\nextent 1 8 4\nextent 1 16 4\nshare 1 7\nlisten 1 b\n";
         let config = Config::parse(text.as_bytes()).unwrap();
         let board = Arc::new(Board::new(2, 2).unwrap());
-        let orders = Arc::new(Orders::new(Arc::new(Bell::new().unwrap())));
+        let limits = [Limit::default(); 2];
+        let orders = Arc::new(Orders::new(Arc::new(Bell::new().unwrap()), &limits));
         let end = Stop::new(Arc::new(Bell::new().unwrap()));
         let desk = Desk::new(Facts::of(&config), Arc::clone(&board), Arc::clone(&orders), end.clone());
         let listener = Listener::bind_for_operators(&path).unwrap();
@@ -112,6 +114,7 @@ fn a_state_is_what_is_shown() {
     );
     let guest = serde_json::json!({
         "guest": 1, "state": "enabled", "comes": "listen", "memory": 4096, "blocks": 8, "share": 7, "in_flight": 3,
+        "limit": { "iops": null, "bytes": null },
     });
     assert_eq!(state["guests"][1], guest);
     assert_eq!(state["guests"][0]["share"], 57);
