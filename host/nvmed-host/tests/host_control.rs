@@ -113,7 +113,7 @@ fn drains_under_load() {
         }
         done
     });
-    for _ in 0..20 {
+    for round in 0..40 {
         let drained = ask(&folder, "drain", "");
         assert_eq!((&drained["drained"], &drained["in_flight"]), (&true.into(), &0.into()));
         let state = ask(&folder, "state", "");
@@ -122,7 +122,8 @@ fn drains_under_load() {
             (&"drained".into(), &0.into())
         );
         ask(&folder, "resume", "");
-        std::thread::sleep(Duration::from_millis(20));
+        // half of them begin before the end of the one before is heeded
+        std::thread::sleep(Duration::from_millis(20 * (round % 2)));
     }
     stop.store(true, Ordering::SeqCst);
     assert!(load.join().unwrap() >= 32);

@@ -172,7 +172,8 @@ impl Desk {
     /// The reply to a drain, where there is one: commands have run out, or are taken again, or it was waited for long enough.
     #[must_use]
     pub fn drained(&self, until: Instant, now: Instant) -> Option<String> {
-        let drained = self.board.phase() == Phase::Drained;
+        // what was shown before the mediator's thread has heeded the request says nothing
+        let drained = self.board.phase_after(self.orders.changes()) == Some(Phase::Drained);
         let given_up = !self.orders.is_draining() || now >= until;
         let under_way: u32 = self.board.lanes.iter().map(LaneBoard::flying).sum();
         (drained || given_up).then(|| reply("drain", json!({ "drained": drained, "in_flight": under_way })))

@@ -3,7 +3,6 @@
 #![forbid(unsafe_code)]
 
 use std::sync::Arc;
-
 use std::time::Instant;
 
 use super::lanes::{Lanes, Sent};
@@ -243,9 +242,14 @@ impl Client {
         self.draining && self.enabled && !self.held
     }
 
-    /// Whether nothing of it will come to the drive as long as it is drained.
+    /// Whether nothing of it will come to the drive as long as it is drained. Of a guest whose work was cut off, and may not go on without Bus Master Enable,
+    /// something may.
     pub fn is_quiet(&self) -> bool {
-        !self.may_work() || if self.enabled { self.held } else { !self.due }
+        if self.enabled {
+            self.held
+        } else {
+            !self.due
+        }
     }
 
     /// How many commands came to the drive since this was asked last.

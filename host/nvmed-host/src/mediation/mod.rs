@@ -283,13 +283,14 @@ impl<S: Side> Mediation<S> {
 
     /// Shows whether commands are taken. All that were taken have run out where the guests' are with the drive, and the drive has none.
     fn show_phase(&self) {
-        self.board.show_phase(if !self.draining {
+        let phase = if !self.draining {
             Phase::Running
         } else if self.busy || self.lanes.are_flying() || !self.clients.iter().all(Client::is_quiet) {
             Phase::Draining
         } else {
             Phase::Drained
-        });
+        };
+        self.board.show_phase(phase, self.heeded);
     }
 
     /// What guests ask for. Whether there was something.

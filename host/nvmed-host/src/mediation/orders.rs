@@ -71,8 +71,9 @@ impl Orders {
 
     /// No commands of guests are to be taken, or they are to be taken again.
     pub fn drain(&self, on: bool) {
-        self.drain.store(on, Ordering::SeqCst);
-        self.change();
+        if self.drain.swap(on, Ordering::SeqCst) != on {
+            self.change();
+        }
     }
 
     /// Whether no commands of guests are to be taken.

@@ -52,6 +52,11 @@ impl Rig {
         }
     }
 
+    /// Shows a phase, after all orders.
+    fn show(&self, phase: Phase) {
+        self.board.show_phase(phase, self.orders.changes());
+    }
+
     fn connect(&self) -> UnixStream {
         let socket = UnixStream::connect(&self.path).unwrap();
         socket.set_read_timeout(Some(Duration::from_secs(20))).unwrap();
@@ -145,7 +150,7 @@ fn several_requests_of_a_connection_are_answered_in_order() {
 fn a_drain_is_answered_when_commands_have_run_out() {
     let rig = Rig::new("drain");
     rig.board.lanes[0].show_flying(2);
-    rig.board.show_phase(Phase::Draining);
+    rig.show(Phase::Draining);
     let begin = Instant::now();
     let given_up = ask(&rig.path, r#"{"version":1,"request":"drain","wait":1}"#);
     assert!(begin.elapsed() >= Duration::from_secs(1));
@@ -162,13 +167,18 @@ fn a_drain_is_answered_when_commands_have_run_out() {
     // others are served meanwhile
     ask(&rig.path, STATE);
     rig.board.lanes[0].show_flying(0);
-    rig.board.show_phase(Phase::Drained);
+    // it has not heeded the last order yet
+    let orders = rig.orders.changes();
+    rig.board.show_phase(Phase::Drained, orders - 1);
+    socket.set_read_timeout(Some(Duration::from_millis(200))).unwrap();
+    assert!(socket.read(&mut byte).is_err(), "it is of an earlier drain");
+    rig.show(Phase::Drained);
     socket.set_read_timeout(Some(Duration::from_secs(20))).unwrap();
     let mut socket = BufReader::new(socket);
     let drained = serde_json::json!({ "drained": true, "in_flight": 0 });
     assert_eq!(line(&mut socket).unwrap()["drain"], drained);
     // one that is waited for ends where commands are taken again
-    rig.board.show_phase(Phase::Draining);
+    rig.show(Phase::Draining);
     socket
         .get_mut()
         .write_all(b"{\"version\":1,\"request\":\"drain\"}\n")

@@ -179,6 +179,27 @@ fn tails_of_a_guest_at_its_limit_are_kept_back() {
     assert_eq!(rig.log().last().unwrap(), "doorbell 0 0x1010 9");
 }
 
+/// A guest without Bus Master Enable whose work was cut off may have commands that are taken and not with the drive: they would come to it after a reset.
+#[test]
+fn a_drain_waits_for_a_guest_that_was_cut_off() {
+    let mut rig = Rig::new(Manner::Answers, 1);
+    rig.enable(0);
+    rig.send(0, &[RING]);
+    let mediation = rig.mediation.as_mut().unwrap();
+    mediation.listen();
+    rig.fake.state().waiting.insert(0, EVENTS as u32);
+    assert!(mediation.work_guests(Instant::now()).unwrap());
+    rig.send(0, &[Access::Master(false)]);
+    rig.orders.drain(true);
+    for _ in 0..3 {
+        rig.turn(Instant::now());
+    }
+    assert_eq!((rig.board.phase(), rig.board.lanes[0].flying()), (Phase::Draining, 0));
+    rig.send(0, &[Access::Master(true)]);
+    rig.turn(Instant::now());
+    assert_eq!(rig.board.phase(), Phase::Drained);
+}
+
 /// A drain wakes a thread that sleeps.
 #[test]
 fn a_drain_is_heard() {
