@@ -229,6 +229,8 @@ impl DriveBoard {
         match self.state.of(&DriveState::ALL) {
             DriveState::Failed => DriveState::Failed,
             _ if self.words.get().is_none() => DriveState::Opening,
+            // the mediator's thread has shown nothing yet
+            DriveState::Opening => DriveState::Good,
             state => state,
         }
     }
@@ -345,8 +347,13 @@ mod tests {
         board.drive.show_state(DriveState::Failed);
         assert_eq!(board.drive.state(), DriveState::Failed);
         board.drive.open("a drive");
-        for state in DriveState::ALL {
-            board.drive.show_state(state);
+        for (shown, state) in [
+            (DriveState::Opening, DriveState::Good),
+            (DriveState::Good, DriveState::Good),
+            (DriveState::Reset, DriveState::Reset),
+            (DriveState::Failed, DriveState::Failed),
+        ] {
+            board.drive.show_state(shown);
             assert_eq!(board.drive.state(), state);
         }
         assert_eq!(board.drive.words(), Some("a drive"));

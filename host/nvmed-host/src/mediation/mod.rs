@@ -228,6 +228,7 @@ impl<S: Side> Mediation<S> {
     /// Carries out what guests ask for, and what is due, for some milliseconds at most.
     fn turn(&mut self, now: Instant) {
         self.heed(now);
+        let recovering = self.recovering;
         let stirred = self.listen();
         let opened = self.clients.iter().filter_map(Client::opens).any(|until| until <= now);
         let result = if stirred || opened || self.due || self.recovering || self.lanes.are_flying() {
@@ -249,6 +250,9 @@ impl<S: Side> Mediation<S> {
         self.look_at_failed(now);
         self.note_ends();
         self.note_faults();
+        if recovering != self.recovering {
+            self.show();
+        }
         self.show_phase();
     }
 
