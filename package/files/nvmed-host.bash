@@ -9,7 +9,7 @@ _nvmed_host() {
     if ((COMP_CWORD == 1)); then
         mapfile -t COMPREPLY < <(compgen -W 'check ctl help' -- "$now")
     elif [[ ${COMP_WORDS[1]} == ctl && $before != --json ]] && ((COMP_CWORD > 2)); then
-        mapfile -t COMPREPLY < <(compgen -W 'state figures top drain resume end' -- "$now")
+        mapfile -t COMPREPLY < <(compgen -W 'state figures top limit drain resume end' -- "$now")
         return
     elif [[ $before == help ]]; then
         return

@@ -5,7 +5,7 @@
 #![forbid(unsafe_code)]
 
 use std::io;
-use std::sync::atomic::{AtomicBool, AtomicU32, AtomicU8, Ordering};
+use std::sync::atomic::{AtomicBool, AtomicU32, AtomicU64, AtomicU8, Ordering};
 use std::sync::{Arc, OnceLock};
 
 use crate::figures::{Counter, GuestFigures};
@@ -229,6 +229,8 @@ impl DriveBoard {
         match self.state.of(&DriveState::ALL) {
             DriveState::Failed => DriveState::Failed,
             _ if self.words.get().is_none() => DriveState::Opening,
+            // the mediator's thread has shown nothing yet
+            DriveState::Opening => DriveState::Good,
             state => state,
         }
     }
@@ -254,6 +256,8 @@ impl DriveBoard {
 #[derive(Debug)]
 pub struct Board {
     phase: Word,
+    /// How many of the operator's orders are in what is shown.
+    heeded: AtomicU64,
     /// The drive.
     pub drive: DriveBoard,
     /// The lanes, by their numbers.
@@ -272,6 +276,7 @@ impl Board {
     pub fn new(lanes: usize, guests: usize) -> io::Result<Self> {
         Ok(Self {
             phase: Word::default(),
+            heeded: AtomicU64::new(0),
             drive: DriveBoard::default(),
             lanes: (0..lanes).map(|_| LaneBoard::default()).collect(),
             guests: (0..guests).map(|_| GuestBoard::default()).collect(),
@@ -285,10 +290,19 @@ impl Board {
         self.phase.of(&Phase::ALL)
     }
 
-    /// Of the mediator's thread: whether guests' commands are taken. A reader that waits for a change is woken.
-    pub fn show_phase(&self, phase: Phase) {
-        if phase != self.phase() {
+    /// Whether guests' commands are taken, once so many of the operator's orders were heeded; `None` before.
+    #[must_use]
+    pub fn phase_after(&self, orders: u64) -> Option<Phase> {
+        // the phase is shown before
+        let heeded = self.heeded.load(Ordering::Acquire);
+        (heeded == orders).then(|| self.phase())
+    }
+
+    /// Of the mediator's thread: whether guests' commands are taken, after so many of the operator's orders. A reader that waits for a change is woken.
+    pub fn show_phase(&self, phase: Phase, orders: u64) {
+        if phase != self.phase() || orders != self.heeded.load(Ordering::Relaxed) {
             self.phase.show(phase as u8);
+            self.heeded.store(orders, Ordering::Release);
             self.reader.ring();
         }
     }
@@ -314,8 +328,10 @@ mod tests {
             assert_eq!(guest.state(), state);
         }
         for phase in Phase::ALL {
-            board.show_phase(phase);
+            board.show_phase(phase, 7);
             assert_eq!(board.phase(), phase);
+            assert_eq!(board.phase_after(7), Some(phase));
+            assert_eq!(board.phase_after(8), None);
         }
         let names = GuestState::ALL.map(GuestState::name);
         assert!(names
@@ -331,8 +347,13 @@ mod tests {
         board.drive.show_state(DriveState::Failed);
         assert_eq!(board.drive.state(), DriveState::Failed);
         board.drive.open("a drive");
-        for state in DriveState::ALL {
-            board.drive.show_state(state);
+        for (shown, state) in [
+            (DriveState::Opening, DriveState::Good),
+            (DriveState::Good, DriveState::Good),
+            (DriveState::Reset, DriveState::Reset),
+            (DriveState::Failed, DriveState::Failed),
+        ] {
+            board.drive.show_state(shown);
             assert_eq!(board.drive.state(), state);
         }
         assert_eq!(board.drive.words(), Some("a drive"));

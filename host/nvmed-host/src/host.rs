@@ -218,7 +218,8 @@ impl Host {
         let (tell, opened) = teller(&own_bell);
         let bell = Arc::new(Bell::new()?);
         let board = Arc::new(Board::new(config.lanes as usize, config.guests.len())?);
-        let orders = Arc::new(Orders::new(Arc::clone(&bell)));
+        let limits: Vec<_> = config.guests.iter().map(|guest| guest.limit).collect();
+        let orders = Arc::new(Orders::new(Arc::clone(&bell), &limits));
         let (queue, reports) = channel();
         let reporter = Reports {
             queue,

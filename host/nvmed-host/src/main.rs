@@ -10,7 +10,7 @@ use std::time::Duration;
 use clap::error::ErrorKind;
 use clap::{Arg, ArgAction, Command};
 use nvmed_host::config::Config;
-use nvmed_host::ctl::{self, Words};
+use nvmed_host::ctl::{self, Limited, Words};
 use nvmed_host::host::{Host, Outcome};
 use nvmed_host::log::Log;
 use nvmed_host::signals::Signals;
@@ -39,6 +39,8 @@ The configuration has plain lines; '#' begins a comment, and a word in quotes ma
   guest G memory SIZE [FILE]  a guest, numbered from 0 in order, its memory, and the file for it
   extent G BASE BLOCKS        blocks of 512 bytes of the drive that are the guest's: one to eight such lines
   share G TAGS                of the 64 tags of each lane, at most so many (its part of those that are left)
+  limit G iops N              commands a second, at most so many, 1 to 10000000 (as many as it likes)
+  limit G bytes SIZE          bytes a second that they move, at most so many, 128K to 1024G (as many as it likes)
   descriptors G N             of a scatter gather list, 1 to 4096 (1024)
   version G 1.4               what its version register says, 1.0 to 2.0 (1.2)
   machine G q35|pc            the type of its machine (that of the words of start, or q35)
@@ -134,6 +136,7 @@ fn ctl_words() -> Command {
                     .help("So many times; without it until it is interrupted"),
             ),
         )
+        .subcommand(limit_words())
         .subcommand(
             Command::new("drain")
                 .about("Takes no commands of guests any more, and waits until those under way have run out")
@@ -141,6 +144,47 @@ fn ctl_words() -> Command {
         )
         .subcommand(Command::new("resume").about("Takes commands again after a drain"))
         .subcommand(Command::new("end").about("Ends the program, as SIGTERM does"))
+}
+
+fn limit_words() -> Command {
+    Command::new("limit")
+        .about("Limits what a guest may have a second")
+        .arg(
+            Arg::new("guest")
+                .value_name("G")
+                .required(true)
+                .value_parser(clap::value_parser!(u64).range(0..=15))
+                .help("The guest's number"),
+        )
+        .arg(
+            Arg::new("of")
+                .value_name("OF")
+                .required(true)
+                .value_parser(["iops", "bytes"])
+                .help("Commands, or bytes that they move"),
+        )
+        .arg(
+            Arg::new("rate")
+                .value_name("N")
+                .required(true)
+                .value_parser(rate)
+                .help("So many, which may end with K, M or G; or 'none'"),
+        )
+}
+
+/// A rate: a number that may end with K, M or G (2^10, 2^20, 2^30), or `none`, which is 0.
+fn rate(word: &str) -> Result<u64, String> {
+    if word == "none" {
+        return Ok(0);
+    }
+    let units = [('K', 10), ('M', 20), ('G', 30)];
+    let unit = units
+        .iter()
+        .find_map(|&(name, shift)| Some((word.strip_suffix(name)?, shift)));
+    let (digits, shift) = unit.unwrap_or((word, 0));
+    let number = digits.parse::<u64>().ok().filter(|&number| number != 0);
+    let rate = number.and_then(|number| number.checked_mul(1 << shift));
+    rate.ok_or_else(|| String::from("it is a number from 1 on, such as 500 or 10M, or 'none'"))
 }
 
 /// The version of this program, of the library's interface, and which kind of library there is.
@@ -198,6 +242,14 @@ fn ask(socket: &Path, matches: &clap::ArgMatches) -> u8 {
         Some(("figures", matches)) if matches.contains_id("format") => Words::Prometheus,
         Some(("figures", _)) => Words::Figures,
         Some(("top", matches)) => return top(socket, matches.get_one("times").copied()),
+        Some(("limit", matches)) => Words::Limit {
+            guest: matches.get_one("guest").copied().unwrap_or_default(),
+            of: match matches.get_one::<String>("of").map(String::as_str) {
+                Some("bytes") => Limited::Bytes,
+                _ => Limited::Iops,
+            },
+            rate: matches.get_one("rate").copied().filter(|&rate| rate != 0),
+        },
         Some(("resume", _)) => Words::Resume,
         Some(("end", _)) => Words::End,
         _ => Words::State,

@@ -113,7 +113,7 @@ fn drains_under_load() {
         }
         done
     });
-    for _ in 0..20 {
+    for round in 0..40 {
         let drained = ask(&folder, "drain", "");
         assert_eq!((&drained["drained"], &drained["in_flight"]), (&true.into(), &0.into()));
         let state = ask(&folder, "state", "");
@@ -122,7 +122,8 @@ fn drains_under_load() {
             (&"drained".into(), &0.into())
         );
         ask(&folder, "resume", "");
-        std::thread::sleep(Duration::from_millis(20));
+        // half of them begin before the end of the one before is heeded
+        std::thread::sleep(Duration::from_millis(20 * (round % 2)));
     }
     stop.store(true, Ordering::SeqCst);
     assert!(load.join().unwrap() >= 32);
@@ -228,7 +229,7 @@ fn an_operators_words() {
     let (status, said, _) = ctl(&folder, &["state"]);
     assert_eq!(status, 0);
     assert!(
-        said.contains("guest  state    client  memory  blocks  share  in flight\n"),
+        said.contains("guest  state    client  memory  blocks  share  in flight  most iops"),
         "{said}"
     );
     assert!(said.contains("; running\ndrive ram: good: "), "{said}");
@@ -242,6 +243,29 @@ fn an_operators_words() {
         (0, "drained: nothing is taken, and nothing is under way\n")
     );
     assert_eq!(ctl(&folder, &["resume"]).0, 0);
+    let (status, said, _) = ctl(&folder, &["limit", "1", "bytes", "10M"]);
+    let words = "guest 1: as many commands as it likes, 10M bytes a second\n";
+    assert_eq!((status, said.as_str()), (0, words));
+    assert_eq!(ask(&folder, "state", "")["guests"][1]["limit"]["bytes"], 10 << 20);
+    assert_eq!(ctl(&folder, &["limit", "1", "iops", "500"]).0, 0);
+    assert_eq!(ctl(&folder, &["limit", "1", "bytes", "none"]).0, 0);
+    let limit = serde_json::json!({ "iops": 500, "bytes": null });
+    assert_eq!(ask(&folder, "state", "")["guests"][1]["limit"], limit);
+    let (status, _, said) = ctl(&folder, &["limit", "2", "iops", "500"]);
+    assert_eq!(
+        (status, said.as_str()),
+        (1, "nvmed-host: refused: there is no guest 2: there are 2\n")
+    );
+    let (status, _, said) = ctl(&folder, &["limit", "1", "bytes", "1K"]);
+    assert!(status == 1 && said.contains("whole number from 131072 to"), "{said}");
+    for wrong in [
+        &["limit"][..],
+        &["limit", "1", "iops"],
+        &["limit", "1", "iops", "0"],
+        &["limit", "1", "speed", "1"],
+    ] {
+        assert_eq!(ctl(&folder, wrong).0, 2, "{wrong:?}");
+    }
     for wrong in [
         &[][..],
         &["what"],

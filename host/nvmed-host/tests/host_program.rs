@@ -30,6 +30,8 @@ fn words_and_statuses() {
         "guest G memory SIZE [FILE]",
         "extent G BASE BLOCKS",
         "share G TAGS",
+        "limit G iops N",
+        "limit G bytes SIZE",
         "descriptors G N",
         "version G",
         "machine G",

@@ -13,6 +13,7 @@ use super::{
     MOST_WORDS_OF_START, TAGS,
 };
 use crate::machine::Machine;
+use crate::mediation::limits::{Limit, LEAST_BYTES, MOST_BYTES, MOST_IOPS};
 
 type Outcome = Result<(), String>;
 
@@ -43,6 +44,7 @@ pub(super) struct GuestDraft {
     pub trust: bool,
     pub extents: Vec<ExtentConfig>,
     pub share: Option<Said<u32>>,
+    pub limit: Limit,
     pub descriptors: Option<u32>,
     pub version: Option<u32>,
     pub doorbells: Option<Said<Doorbells>>,
@@ -60,7 +62,7 @@ struct Kind {
     act: fn(&mut Draft, u32, &[Vec<u8>]) -> Outcome,
 }
 
-const KINDS: [Kind; 16] = [
+const KINDS: [Kind; 17] = [
     Kind {
         name: "guest",
         least: 4,
@@ -78,6 +80,12 @@ const KINDS: [Kind; 16] = [
         least: 3,
         most: 3,
         act: Draft::on_share,
+    },
+    Kind {
+        name: "limit",
+        least: 4,
+        most: 4,
+        act: Draft::on_limit,
     },
     Kind {
         name: "descriptors",
@@ -225,6 +233,7 @@ impl Draft {
             trust: false,
             extents: Vec::new(),
             share: None,
+            limit: Limit::default(),
             descriptors: None,
             version: None,
             doorbells: None,
@@ -296,6 +305,29 @@ impl Draft {
             ));
         };
         guest.version = Some(*value);
+        Ok(())
+    }
+
+    /// `limit G iops N` or `limit G bytes SIZE`
+    fn on_limit(&mut self, _line: u32, words: &[Vec<u8>]) -> Outcome {
+        let limit = &mut self.guest_of(words)?.limit;
+        match word(words, 2) {
+            b"iops" => {
+                once(&limit.iops, "the guest's limit of commands stands")?;
+                limit.iops = Some(number("the limit of commands", word(words, 3), 1, MOST_IOPS)?);
+            }
+            b"bytes" => {
+                once(&limit.bytes, "the guest's limit of bytes stands")?;
+                let bytes = size("the limit of bytes", word(words, 3), MOST_BYTES)?;
+                if bytes < LEAST_BYTES {
+                    return Err(format!(
+                        "the limit of bytes is {bytes}, and a command may have {LEAST_BYTES}"
+                    ));
+                }
+                limit.bytes = Some(bytes);
+            }
+            other => return Err(format!("the limit is neither of iops nor of bytes: {}", shown(other))),
+        }
         Ok(())
     }
 

@@ -18,6 +18,7 @@ use std::path::{Path, PathBuf};
 use std::time::Duration;
 
 use crate::machine::Machine;
+use crate::mediation::limits::Limit;
 
 /// The most guests.
 pub const MOST_GUESTS: usize = 16;
@@ -185,6 +186,8 @@ pub struct GuestConfig {
     pub extents: Vec<ExtentConfig>,
     /// How many of a lane's 64 tags it may hold: at least one for each extent. `None`: its part of those that are left.
     pub share: Option<u32>,
+    /// How many commands and bytes a second it may have.
+    pub limit: Limit,
     /// Descriptors of a scatter gather list: 1 to 4,096.
     pub descriptors: u32,
     /// What its version register says, in that register's form (NVMe, Offset 8h: VS): 1.2 without a line.

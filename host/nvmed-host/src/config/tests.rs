@@ -6,6 +6,7 @@ use super::*;
 
 mod any_bytes;
 mod control;
+mod limits;
 
 const GOOD: &str = r#"# two guests
 drive ram 1M /var/tmp/disk   # 2,048 blocks

@@ -92,6 +92,7 @@ fn finish_guest(number: usize, guest: GuestDraft, drive: &DriveConfig) -> Result
         trust: guest.trust,
         extents: guest.extents,
         share: guest.share.as_ref().map(|share| share.value),
+        limit: guest.limit,
         descriptors: guest.descriptors.unwrap_or(DESCRIPTORS),
         version: guest.version.unwrap_or(VERSION),
         doorbells: doorbells_of(number, guest.doorbells, interrupts)?,

@@ -11,6 +11,7 @@ use super::request::{Format, Request, RequestError, VERSION};
 use crate::board::{Board, LaneBoard, Phase};
 use crate::config::{Config, Connection, DriveConfig};
 use crate::figures::{json as figures, prometheus};
+use crate::mediation::limits::Limit;
 use crate::mediation::orders::Orders;
 use crate::mediation::Stop;
 
@@ -100,6 +101,11 @@ pub fn full(most: usize) -> String {
     reply("error", Value::from(words))
 }
 
+/// Limits, null where there is none.
+fn limit(Limit { iops, bytes }: Limit) -> Value {
+    json!({ "iops": iops, "bytes": bytes })
+}
+
 /// Whole seconds of a time.
 fn seconds(time: Duration) -> u64 {
     time.as_secs()
@@ -138,6 +144,20 @@ impl Desk {
                     },
                 ))
             }
+            Request::Limit { guest, .. } if guest >= self.facts.guests.len() => {
+                let words = format!("there is no guest {guest}: there are {}", self.facts.guests.len());
+                Answer::Now(reply("error", Value::from(words)))
+            }
+            Request::Limit { guest, iops, bytes } => {
+                let before = self.orders.limit(guest);
+                let limit = Limit {
+                    iops: iops.unwrap_or(before.iops),
+                    bytes: bytes.unwrap_or(before.bytes),
+                };
+                self.orders.set_limit(guest, limit);
+                let Limit { iops, bytes } = limit;
+                Answer::Now(reply("limit", json!({ "guest": guest, "iops": iops, "bytes": bytes })))
+            }
             Request::Drain { wait } => {
                 self.orders.drain(true);
                 Answer::Drain(now + wait)
@@ -153,7 +173,8 @@ impl Desk {
     /// The reply to a drain, where there is one: commands have run out, or are taken again, or it was waited for long enough.
     #[must_use]
     pub fn drained(&self, until: Instant, now: Instant) -> Option<String> {
-        let drained = self.board.phase() == Phase::Drained;
+        // what was shown before the mediator's thread has heeded the request says nothing
+        let drained = self.board.phase_after(self.orders.changes()) == Some(Phase::Drained);
         let given_up = !self.orders.is_draining() || now >= until;
         let under_way: u32 = self.board.lanes.iter().map(LaneBoard::flying).sum();
         (drained || given_up).then(|| reply("drain", json!({ "drained": drained, "in_flight": under_way })))
@@ -198,6 +219,7 @@ impl Desk {
                 "blocks": facts.blocks,
                 "share": facts.share,
                 "in_flight": shown.flying(),
+                "limit": limit(self.orders.limit(guest)),
             })).collect::<Vec<_>>(),
         })
     }

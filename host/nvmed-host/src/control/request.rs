@@ -8,6 +8,8 @@ use std::time::Duration;
 
 use serde_json::{Map, Value};
 
+use crate::mediation::limits::{LEAST_BYTES, MOST_BYTES, MOST_IOPS};
+
 /// The version of requests and replies. It changes where one that was good would not be any more, or would mean something else.
 pub const VERSION: u64 = 1;
 /// The most bytes of a line, without its line feed.
@@ -15,6 +17,8 @@ pub const MOST_LINE: usize = 4096;
 /// How long a drain is waited for, where the request does not say it; and the longest that it may say.
 const WAIT: u64 = 30;
 const MOST_WAIT: u64 = 600;
+/// The highest number of a guest that there may be.
+const MOST_GUEST: u64 = crate::config::MOST_GUESTS as u64 - 1;
 /// Characters of a word that an error repeats.
 const SHOWN: usize = 40;
 
@@ -35,6 +39,15 @@ pub enum Request {
     State,
     /// How many commands guests had, and how long they took.
     Figures(Format),
+    /// A guest's limits.
+    Limit {
+        /// The guest.
+        guest: usize,
+        /// Commands a second. `None`: as before; `Some(None)`: as many as it likes.
+        iops: Option<Option<u64>>,
+        /// Bytes a second, in the same way.
+        bytes: Option<Option<u64>>,
+    },
     /// No commands of guests are taken any more. The reply comes where all that were taken have run out, or after so long.
     Drain {
         /// The longest wait for the reply: at most ten minutes.
@@ -47,7 +60,7 @@ pub enum Request {
 }
 
 /// The names of all requests, for messages.
-const NAMES: &str = "state, figures, drain, resume and end";
+const NAMES: &str = "state, figures, limit, drain, resume and end";
 
 /// What is wrong with a line.
 #[derive(Clone, Debug, PartialEq, Eq, thiserror::Error)]
@@ -112,6 +125,21 @@ impl Fields {
         })
     }
 
+    /// A number from `least` to `most` or null, or `None` where the field is not there.
+    fn rate(&mut self, field: &'static str, least: u64, most: u64) -> Result<Option<Option<u64>>, RequestError> {
+        match self.0.remove(field) {
+            None => Ok(None),
+            Some(Value::Null) => Ok(Some(None)),
+            Some(value) => match value.as_u64() {
+                Some(rate) if (least..=most).contains(&rate) => Ok(Some(Some(rate))),
+                _ => Err(RequestError::Value {
+                    field,
+                    wanted: format!("whole number from {least} to {most}, and not null"),
+                }),
+            },
+        }
+    }
+
     fn text(&mut self, field: &'static str) -> Result<Option<String>, RequestError> {
         match self.0.remove(field) {
             None => Ok(None),
@@ -168,6 +196,13 @@ impl Request {
                     })
                 }
             }),
+            "limit" => Self::Limit {
+                guest: fields
+                    .number("guest", MOST_GUEST)?
+                    .ok_or(RequestError::Missing("guest"))? as usize,
+                iops: fields.rate("iops", 1, MOST_IOPS)?,
+                bytes: fields.rate("bytes", LEAST_BYTES, MOST_BYTES)?,
+            },
             "drain" => Self::Drain {
                 wait: Duration::from_secs(fields.number("wait", MOST_WAIT)?.unwrap_or(WAIT)),
             },

@@ -26,6 +26,24 @@ const SECOND: Duration = Duration::from_secs(1);
 /// The most bytes of a reply.
 const MOST_REPLY: u64 = 16 << 20;
 
+/// What a limit is of.
+#[derive(Clone, Copy, Debug, PartialEq, Eq)]
+pub enum Limited {
+    /// Commands.
+    Iops,
+    /// Bytes.
+    Bytes,
+}
+
+impl Limited {
+    fn field(self) -> &'static str {
+        match self {
+            Self::Iops => "iops",
+            Self::Bytes => "bytes",
+        }
+    }
+}
+
 /// What is asked for.
 #[derive(Clone, Debug, PartialEq, Eq)]
 pub enum Words {
@@ -35,6 +53,15 @@ pub enum Words {
     Figures,
     /// `figures prometheus`
     Prometheus,
+    /// `limit G iops|bytes N|none`
+    Limit {
+        /// The guest.
+        guest: u64,
+        /// Of what: the request's field.
+        of: Limited,
+        /// So many a second, or as many as it likes.
+        rate: Option<u64>,
+    },
     /// `drain [SECONDS]`
     Drain(Option<u64>),
     /// `resume`
@@ -96,6 +123,7 @@ impl Words {
         match self {
             Self::State => "state",
             Self::Figures | Self::Prometheus => "figures",
+            Self::Limit { .. } => "limit",
             Self::Drain(_) => "drain",
             Self::Resume => "resume",
             Self::End => "end",
@@ -107,6 +135,10 @@ impl Words {
         match self {
             Self::Drain(Some(seconds)) => request["wait"] = json!(seconds),
             Self::Prometheus => request["format"] = json!("prometheus"),
+            Self::Limit { guest, of, rate } => {
+                request["guest"] = json!(guest);
+                request[of.field()] = json!(rate);
+            }
             _ => {}
         }
         request
@@ -130,6 +162,7 @@ impl Words {
             Self::State => said(&tables::state(reply)),
             Self::Figures => said(&looks::totals(reply)),
             Self::Prometheus => said(reply["text"].as_str().unwrap_or_default()),
+            Self::Limit { .. } => said(&tables::limit(reply)),
             Self::Resume => said("commands are taken again\n"),
             Self::End => said("the program ends\n"),
             Self::Drain(_) => match reply["drained"].as_bool() {

@@ -82,6 +82,20 @@ pub(super) fn table(heads: &[&str], rows: &[Vec<Cell>]) -> String {
     out
 }
 
+/// The reply to `limit`.
+pub(super) fn limit(limit: &Value) -> String {
+    let rate = |cell: Cell, unit: &str| match cell.text.as_str() {
+        "-" => format!("as many {unit} as it likes"),
+        rate => format!("{rate} {unit} a second"),
+    };
+    format!(
+        "guest {}: {}, {}\n",
+        number(&limit["guest"]).text,
+        rate(number(&limit["iops"]), "commands"),
+        rate(size(&limit["bytes"]), "bytes")
+    )
+}
+
 /// The reply to `state`.
 pub(super) fn state(state: &Value) -> String {
     let word = |value: &Value| text(value).text;
@@ -117,9 +131,21 @@ pub(super) fn state(state: &Value) -> String {
             number(&guest["blocks"]),
             number(&guest["share"]),
             number(&guest["in_flight"]),
+            number(&guest["limit"]["iops"]),
+            size(&guest["limit"]["bytes"]),
         ]
     });
-    let heads = ["guest", "state", "client", "memory", "blocks", "share", "in flight"];
+    let heads = [
+        "guest",
+        "state",
+        "client",
+        "memory",
+        "blocks",
+        "share",
+        "in flight",
+        "most iops",
+        "most bytes/s",
+    ];
     out += &table(&heads, &guests.collect::<Vec<_>>());
     out
 }

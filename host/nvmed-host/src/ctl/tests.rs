@@ -41,6 +41,28 @@ fn requests_and_their_words() {
             true,
         ),
         (
+            Words::Limit {
+                guest: 1,
+                of: Limited::Bytes,
+                rate: Some(1 << 20),
+            },
+            "{\"version\":1,\"limit\":{\"guest\":1,\"iops\":null,\"bytes\":1048576}}\n",
+            json!({"version": 1, "request": "limit", "guest": 1, "bytes": 1_048_576}),
+            "guest 1: as many commands as it likes, 1M bytes a second\n",
+            true,
+        ),
+        (
+            Words::Limit {
+                guest: 0,
+                of: Limited::Iops,
+                rate: None,
+            },
+            "{\"version\":1,\"limit\":{\"guest\":0,\"iops\":null,\"bytes\":null}}\n",
+            json!({"version": 1, "request": "limit", "guest": 0, "iops": null}),
+            "guest 0: as many commands as it likes, as many bytes as it likes\n",
+            true,
+        ),
+        (
             Words::Drain(None),
             "{\"version\":1,\"drain\":{\"drained\":true,\"in_flight\":0}}\n",
             json!({"version": 1, "request": "drain"}),
@@ -91,7 +113,7 @@ fn a_state_as_tables() {
         "drive": { "kind": "ram", "state": "good", "about": "8 blocks in memory", "blocks": 8 },
         "lanes": [{ "lane": 0, "in_flight": 12, "closed": false }, { "lane": 1, "in_flight": 0, "closed": true }],
         "guests": [
-            { "guest": 0, "state": "enabled", "comes": "listen", "memory": 536_870_912, "blocks": 100, "share": 32, "in_flight": 12 },
+            { "guest": 0, "state": "enabled", "comes": "listen", "memory": 536_870_912, "blocks": 100, "share": 32, "in_flight": 12, "limit": { "iops": 500, "bytes": 10_485_760 } },
             { "guest": 10, "state": "waiting", "comes": "start", "memory": 4097, "blocks": 7 },
         ],
     });
@@ -103,9 +125,9 @@ lane  state   in flight
    0  open           12
    1  closed          0
 
-guest  state    client  memory  blocks  share  in flight
-    0  enabled  listen    512M     100     32         12
-   10  waiting  start     4097       7      -          -
+guest  state    client  memory  blocks  share  in flight  most iops  most bytes/s
+    0  enabled  listen    512M     100     32         12        500           10M
+   10  waiting  start     4097       7      -          -          -             -
 ";
     assert_eq!(Words::State.said(&state).text, wanted);
     // what is not there is no reason to fail

@@ -3,8 +3,10 @@
 #![forbid(unsafe_code)]
 
 use std::sync::Arc;
+use std::time::Instant;
 
-use super::lanes::Lanes;
+use super::lanes::{Lanes, Sent};
+use super::limits::{Gate, Limit};
 use super::mailbox::{Access, Receiver};
 use super::outbox::Outbox;
 use super::side::Side;
@@ -25,6 +27,10 @@ const CSTS_READY: u32 = 1;
 const CSTS_FATAL: u32 = 1 << 1;
 /// The first doorbell's offset in BAR0.
 const DOORBELLS: u32 = 0x1000;
+/// I/O submission queues.
+const QUEUES: usize = 8;
+/// Events that a command needs at least: it is taken, and comes to the drive.
+const OF_COMMAND: u64 = 2;
 
 /// A guest.
 pub struct Client {
@@ -46,6 +52,8 @@ pub struct Client {
     ending: bool,
     /// Something of the guest may be due.
     due: bool,
+    /// Something of its admin queue may be due: it is looked at by itself where nothing is taken of the others.
+    admin: bool,
     /// Something may have changed of its interrupts.
     stirred: bool,
     /// More accesses wait than were carried out.
@@ -56,6 +64,10 @@ pub struct Client {
     draining: bool,
     /// None are taken, and those that were taken came to the drive.
     held: bool,
+    limit: Limit,
+    gate: Option<Gate>,
+    /// Tails of the I/O submission queues that are kept back until what was rung before has been taken.
+    kept: [Option<u32>; QUEUES],
     /// Commands that came to the drive since [`Client::take_sent`].
     sent: u64,
 }
@@ -77,11 +89,15 @@ impl Client {
             connected: false,
             ending: false,
             due: false,
+            admin: false,
             stirred: false,
             more: false,
             cut: false,
             draining: false,
             held: false,
+            limit: Limit::default(),
+            gate: None,
+            kept: [None; QUEUES],
             sent: 0,
         }
     }
@@ -117,19 +133,107 @@ impl Client {
         self.due && self.may_work()
     }
 
-    /// What is due was done, or at least a part of it: so many commands came to the drive.
-    pub fn note_worked(&mut self, sent: u64, more: bool) {
-        self.sent += sent;
+    /// Something of it may be due.
+    fn stir(&mut self) {
+        self.due = true;
+        self.admin = true;
+    }
+
+    /// What is due was done, or at least a part of it, and this came to the drive. Whether doorbells that were kept back are given on now, by which more may be
+    /// due at once.
+    pub fn note_worked(&mut self, side: &mut dyn Side, sent: Sent, now: Instant, more: bool) -> bool {
+        self.sent += sent.commands;
+        if let Some(gate) = &mut self.gate {
+            gate.take(now, sent.commands, sent.bytes);
+        }
         self.due = more;
         self.cut = more;
         self.held |= self.draining && !more;
+        !more && self.give(side)
+    }
+
+    /// One of its admin commands was done, or there was none.
+    pub fn note_admin(&mut self, done: bool) {
+        self.admin = done;
+        if self.held {
+            self.due = done;
+        }
+    }
+
+    /// How many events its work may have, `most` at most: none where nothing is to be taken of its I/O queues. Its admin commands, which the mediator answers by
+    /// itself, go on then. A controller that was reset takes nothing, but has to run out.
+    pub fn events(&mut self, now: Instant, most: u64) -> u64 {
+        if !self.enabled || self.is_finishing() {
+            return most;
+        }
+        if self.held {
+            return 0;
+        }
+        let Some(gate) = &mut self.gate else { return most };
+        gate.room(now).saturating_mul(OF_COMMAND).min(most)
+    }
+
+    /// Whether its admin queue is to be looked at by itself.
+    pub fn has_admin(&self) -> bool {
+        self.admin
+    }
+
+    /// From when on something of it may be due again that its limits hold back.
+    pub fn opens(&self) -> Option<Instant> {
+        let gate = self.gate.filter(|_| self.is_due() && self.enabled && !self.held)?;
+        gate.closed()
+    }
+
+    /// Gives it limits.
+    pub fn set_limit(&mut self, side: &mut dyn Side, limit: Limit, now: Instant) {
+        if limit != self.limit {
+            self.limit = limit;
+            self.gate = Gate::new(limit, now);
+            self.give(side);
+            self.stir();
+        }
+    }
+
+    /// Rings a doorbell. Of a guest with limits the I/O submission queues' are kept back while commands wait that were rung before: else the first queue would
+    /// have all that the limits leave.
+    fn ring(&mut self, side: &mut dyn Side, offset: u32, value: u32) {
+        let queue = tail_of(offset);
+        if self.gate.is_some() && self.cut {
+            let place = queue
+                .and_then(|queue| queue.checked_sub(1))
+                .and_then(|at| self.kept.get_mut(at));
+            if let Some(place) = place {
+                *place = Some(value);
+                return;
+            }
+        }
+        if queue == Some(0) {
+            // queues are created and deleted by what comes now: they get what was rung before
+            self.give(side);
+        }
+        side.doorbell(self.number, offset, value);
+    }
+
+    /// Gives on what was kept back. Whether there was something.
+    fn give(&mut self, side: &mut dyn Side) -> bool {
+        let mut any = false;
+        for (place, queue) in self.kept.iter_mut().zip(1..) {
+            if let Some(value) = place.take() {
+                side.doorbell(self.number, DOORBELLS + 8 * queue, value);
+                any = true;
+            }
+        }
+        self.due |= any;
+        any
     }
 
     /// No commands of it are to be taken any more, or they are to be taken again.
     pub fn set_drain(&mut self, on: bool) {
-        self.draining = on;
-        self.held = on && !self.cut;
-        self.due = true;
+        if on != self.draining {
+            self.draining = on;
+            self.held = on && !self.cut;
+            self.stir();
+        }
     }
 
     /// Whether commands that were taken are still to be brought to the drive before nothing is taken any more. Their tags are at most its shares of the lanes,
@@ -138,14 +242,14 @@ impl Client {
         self.draining && self.enabled && !self.held
     }
 
-    /// Whether nothing is taken of its I/O queues. Its admin commands, which the mediator answers by itself, go on.
-    pub fn is_held(&self) -> bool {
-        self.held && self.enabled
-    }
-
-    /// Whether nothing of it will come to the drive as long as it is drained.
+    /// Whether nothing of it will come to the drive as long as it is drained. Of a guest whose work was cut off, and may not go on without Bus Master Enable,
+    /// something may.
     pub fn is_quiet(&self) -> bool {
-        !self.may_work() || if self.enabled { self.held } else { !self.due }
+        if self.enabled {
+            self.held
+        } else {
+            !self.due
+        }
     }
 
     /// How many commands came to the drive since this was asked last.
@@ -155,7 +259,9 @@ impl Client {
 
     /// Tags have become free, or a completion queue has room.
     pub fn note_room(&mut self) {
-        self.due |= self.enabled || self.ending;
+        if self.enabled || self.ending {
+            self.stir();
+        }
     }
 
     /// Carries out accesses: the doorbell page's and the mailbox's. Whether there were some.
@@ -180,14 +286,15 @@ impl Client {
 
     /// Takes the values of the doorbell page. Whether there were some.
     fn look(&mut self, side: &mut dyn Side) -> bool {
-        let Some(page) = &self.page else { return false };
+        let Some(page) = self.page.take() else { return false };
         let mut any = false;
         for (offset, value) in page.take() {
             any = true;
-            side.doorbell(self.number, offset, value);
+            self.ring(side, offset, value);
         }
+        self.page = Some(page);
         if any {
-            self.due = true;
+            self.stir();
             self.stirred = true;
         }
         any
@@ -207,14 +314,14 @@ impl Client {
             Access::Reset => self.reset(side),
             Access::Master(on) => {
                 self.master = on;
-                self.due = true;
+                self.stir();
             }
             Access::Write { offset, value } => self.write(side, offset, value),
             Access::Doorbell { offset, value } => {
                 // what the page has is older, since a client that sends messages stores nothing meanwhile
                 self.look(side);
-                side.doorbell(self.number, offset, value);
-                self.due = true;
+                self.ring(side, offset, value);
+                self.stir();
                 self.stirred = true;
             }
             Access::Read { offset } => {
@@ -270,6 +377,7 @@ impl Client {
         }
         if offset == CC {
             self.look(side);
+            self.give(side);
         }
         self.registers.note_write(offset, value);
         side.write(self.number, offset, value);
@@ -281,7 +389,7 @@ impl Client {
             self.failed = side.read(self.number, CSTS) & CSTS_FATAL != 0;
             self.show();
         }
-        self.due = true;
+        self.stir();
     }
 
     /// Tells its thread which vectors are to be signalled. `all`: completions may have been posted for any guest.
@@ -307,4 +415,10 @@ impl Client {
     pub fn is_ending(&self) -> bool {
         self.ending
     }
+}
+
+/// The submission queue whose tail is rung at this offset in BAR0.
+fn tail_of(offset: u32) -> Option<usize> {
+    let place = offset.checked_sub(DOORBELLS)?;
+    (place % 8 == 0).then_some((place / 8) as usize)
 }

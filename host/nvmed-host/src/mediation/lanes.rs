@@ -44,6 +44,15 @@ struct Lane {
     commands: [(Command, Instant); IDENTIFIERS],
 }
 
+/// What came to the drive.
+#[derive(Clone, Copy, Debug, Default, PartialEq, Eq)]
+pub struct Sent {
+    /// Entries.
+    pub commands: u64,
+    /// Bytes that they move.
+    pub bytes: u64,
+}
+
 /// All lanes.
 #[derive(Debug)]
 pub struct Lanes {
@@ -111,15 +120,15 @@ impl Lanes {
         self.lanes.iter().map(|lane| lane.at).collect()
     }
 
-    /// Looks for the entries that the work of `guest` has put into the rings by now, and shows each to `seen`. How many there were.
+    /// Looks for the entries that the work of `guest` has put into the rings by now, and shows each to `seen`. What they are together.
     pub fn note_sent(
         &mut self,
         side: &mut dyn Side,
         guest: usize,
         now: Instant,
         seen: &mut dyn FnMut(&[u8; ENTRY]),
-    ) -> u64 {
-        let mut sent = 0;
+    ) -> Sent {
+        let mut sent = Sent::default();
         let owner = u8::try_from(guest + 1).unwrap_or(0);
         for (number, lane) in self.lanes.iter_mut().enumerate() {
             let Some(rings) = side.rings(number) else {
@@ -132,11 +141,13 @@ impl Lanes {
                 read(&self.window, lane.at.submission + at, &mut entry);
                 let identifier = usize::from(u16::from_le_bytes([entry[2], entry[3]])) % IDENTIFIERS;
                 give(&mut lane.owners, &mut self.counts, identifier, owner);
+                let command = Command::of(&entry);
                 if let Some(place) = lane.commands.get_mut(identifier) {
-                    *place = (Command::of(&entry), now);
+                    *place = (command, now);
                 }
                 lane.flying += 1;
-                sent += 1;
+                sent.commands += 1;
+                sent.bytes += u64::from(command.bytes);
                 seen(&entry);
             }
             lane.tail = rings.tail;

@@ -8,6 +8,7 @@
 pub mod client;
 pub mod failing;
 pub mod lanes;
+pub mod limits;
 pub mod mailbox;
 pub mod orders;
 pub mod outbox;
@@ -31,7 +32,7 @@ use crate::interrupts::Signals;
 use crate::memory::Window;
 use client::Client;
 use failing::{Disk, Failure, Stopped, SILENCE};
-use lanes::Lanes;
+use lanes::{Lanes, Sent};
 use orders::Orders;
 use pace::{Pace, Waiting, TICK};
 use side::{Of, Side};
@@ -145,6 +146,8 @@ pub struct Mediation<S: Side> {
     pace: Pace,
     /// No commands of guests are taken any more.
     draining: bool,
+    /// What was asked for until now was heeded.
+    heeded: u64,
     /// More is due at once.
     due: bool,
     /// Of a lane more may be due.
@@ -189,6 +192,7 @@ impl<S: Side> Mediation<S> {
             counts: parts.counts,
             pace: Pace::new(parts.spin, now),
             draining: false,
+            heeded: 0,
             due: false,
             busy: false,
             told: false,
@@ -226,9 +230,11 @@ impl<S: Side> Mediation<S> {
 
     /// Carries out what guests ask for, and what is due, for some milliseconds at most.
     fn turn(&mut self, now: Instant) {
-        self.heed();
+        self.heed(now);
+        let recovering = self.recovering;
         let stirred = self.listen();
-        let result = if stirred || self.due || self.recovering || self.lanes.are_flying() {
+        let opened = self.clients.iter().filter_map(Client::opens).any(|until| until <= now);
+        let result = if stirred || opened || self.due || self.recovering || self.lanes.are_flying() {
             self.work(now)
         } else {
             Ok((false, now))
@@ -247,22 +253,28 @@ impl<S: Side> Mediation<S> {
         self.look_at_failed(now);
         self.note_ends();
         self.note_faults();
+        if recovering != self.recovering {
+            self.show();
+        }
         self.show_phase();
     }
 
     /// Whether the operator asks for something that was not heeded yet.
     fn is_ordered(&self) -> bool {
-        self.orders.is_draining() != self.draining
+        self.orders.changes() != self.heeded
     }
 
     /// What the operator asks for.
-    fn heed(&mut self) {
-        if self.is_ordered() {
-            self.draining = !self.draining;
-            self.due = true;
-            for client in &mut self.clients {
-                client.set_drain(self.draining);
-            }
+    fn heed(&mut self, now: Instant) {
+        if !self.is_ordered() {
+            return;
+        }
+        self.heeded = self.orders.changes();
+        self.draining = self.orders.is_draining();
+        self.due = true;
+        for client in &mut self.clients {
+            client.set_drain(self.draining);
+            client.set_limit(&mut self.side, self.orders.limit(client.number()), now);
         }
     }
 
@@ -278,13 +290,14 @@ impl<S: Side> Mediation<S> {
 
     /// Shows whether commands are taken. All that were taken have run out where the guests' are with the drive, and the drive has none.
     fn show_phase(&self) {
-        self.board.show_phase(if !self.draining {
+        let phase = if !self.draining {
             Phase::Running
         } else if self.busy || self.lanes.are_flying() || !self.clients.iter().all(Client::is_quiet) {
             Phase::Draining
         } else {
             Phase::Drained
-        });
+        };
+        self.board.show_phase(phase, self.heeded);
     }
 
     /// What guests ask for. Whether there was something.
@@ -341,15 +354,18 @@ impl<S: Side> Mediation<S> {
                 continue;
             }
             let guest = client.number();
-            if client.is_held() {
-                let done = self.side.admin(guest);
-                any |= done;
-                client.note_worked(0, done);
-                continue;
-            }
             loop {
-                let worked = self.side.work(Of::Guest(guest), EVENTS);
-                let mut sent = 0;
+                let most = client.events(now, EVENTS);
+                if most == 0 {
+                    if client.has_admin() {
+                        let done = self.side.admin(guest);
+                        any |= done;
+                        client.note_admin(done);
+                    }
+                    break;
+                }
+                let worked = self.side.work(Of::Guest(guest), most);
+                let mut sent = Sent::default();
                 if worked.done != 0 {
                     any = true;
                     let counts = &mut self.counts;
@@ -359,9 +375,10 @@ impl<S: Side> Mediation<S> {
                         }
                     });
                 }
-                let cut = worked.done >= EVENTS;
+                let cut = worked.done >= most;
                 // where there was no memory for what is left it is tried again, with the next event or second
-                client.note_worked(sent, cut || worked.end == WorkEnd::OutOfMemory);
+                let more = cut || worked.end == WorkEnd::OutOfMemory;
+                any |= client.note_worked(&mut self.side, sent, now, more);
                 if worked.end == WorkEnd::Stray {
                     return Err(Failure::Stray(0));
                 }
@@ -538,7 +555,9 @@ impl<S: Side> Mediation<S> {
             polled: self.recovering || self.lanes.are_flying() && !wakes,
             looked: self.clients.iter().any(Client::is_looked_at),
         };
-        let pause = self.pace.longest(waiting, now);
+        let opens = self.clients.iter().filter_map(Client::opens).min();
+        let held = opens.map_or(Duration::MAX, |until| until.saturating_duration_since(now));
+        let pause = self.pace.longest(waiting, now).min(held);
         if stopping {
             pause.min(Duration::from_millis(20))
         } else {

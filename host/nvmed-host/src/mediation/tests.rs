@@ -1,5 +1,7 @@
 //! The loop over a mediator and a drive of the tests' own.
 
+mod operator;
+
 use std::collections::HashMap;
 use std::os::fd::BorrowedFd;
 use std::sync::{Arc, Mutex, MutexGuard};
@@ -7,15 +9,15 @@ use std::thread::{self, JoinHandle};
 
 use vm_memory::Bytes;
 
+use super::limits::Limit;
 use super::mailbox::{mailbox, Access, Sender};
 use super::outbox::Outbox;
 use super::side::{Rings, Worked};
 use super::*;
-use crate::board::GuestState;
 use crate::doorbells::Page;
 use crate::drive::nvme::Recover;
 use crate::drive::{LaneRings, Progress};
-use crate::figures::{Group, Kind};
+use crate::figures::Kind;
 use crate::interrupts::VectorSet;
 use crate::pci::VERSION_1_3;
 
@@ -127,7 +129,7 @@ impl Side for Fake {
     }
 
     fn work(&mut self, of: Of, most: u64) -> Worked {
-        assert_eq!(most, EVENTS);
+        assert!((1..=EVENTS).contains(&most));
         let mut state = self.state();
         let end = WorkEnd::Done;
         match of {
@@ -310,7 +312,7 @@ impl Rig {
                 version: VERSION_1_3,
             });
         }
-        let orders = Arc::new(Orders::new(Arc::clone(&bell)));
+        let orders = Arc::new(Orders::new(Arc::clone(&bell), &vec![Limit::default(); guests]));
         let board = Arc::new(Board::new(1, guests).unwrap());
         let mediation = Mediation::new(Parts {
             side: fake.clone(),
@@ -596,7 +598,7 @@ fn a_drive_that_refuses_its_queues_is_closed() {
         window: Arc::clone(&fake.window),
         drive: Box::new(fake.clone()),
         posts: Vec::new(),
-        orders: Arc::new(Orders::new(Arc::clone(&bell))),
+        orders: Arc::new(Orders::new(Arc::clone(&bell), &[])),
         board: Arc::new(Board::new(1, 0).unwrap()),
         bell,
         spin: Duration::ZERO,
@@ -625,137 +627,6 @@ fn an_idle_thread_sleeps() {
     let mediation = rig.mediation.as_mut().unwrap();
     let later = Instant::now() + Duration::from_millis(100);
     assert_eq!(mediation.pause(later), TICK, "its controller is disabled");
-}
-
-#[test]
-fn figures_are_of_what_the_drive_has_answered() {
-    let mut rig = Rig::new(Manner::Silent, 2);
-    rig.enable(1);
-    rig.send(1, &[RING, RING]);
-    let begin = Instant::now();
-    rig.turn(begin);
-    let figures = |rig: &Rig| {
-        let read = rig.board.guests[1].figures.of(Kind::Read);
-        (read.commands.get(), read.errors.get(), read.bytes.get())
-    };
-    assert_eq!((figures(&rig), rig.board.guests[1].flying()), ((0, 0, 0), 2));
-    // the first one has a status, and the second one none
-    let completions = [(0u32, 0x0281u32 << 17 | 1 << 16), (1, 1 << 16)];
-    for (slot, (identifier, status)) in (0..).zip(completions) {
-        let at = AT.completion + 16 * slot + 12;
-        let dword = (status | identifier).to_le_bytes();
-        rig.fake.window.slice(at, 4).unwrap().write_slice(&dword, 0).unwrap();
-    }
-    rig.fake.state().completed = 2;
-    let later = begin + Duration::from_secs(2);
-    rig.turn(later);
-    assert_eq!((figures(&rig), rig.board.guests[1].flying()), ((2, 1, 512), 0));
-    let times = rig.board.guests[1].figures.times(Group::Read).read();
-    assert_eq!(times.count(), 2);
-    assert!(
-        times.nanos >= 4_000_000_000 && times.nanos < 5_000_000_000,
-        "{}",
-        times.nanos
-    );
-    assert_eq!(rig.board.lanes[0].commands.get(), 2);
-    assert_eq!(rig.board.guests[0].figures.of(Kind::Read).commands.get(), 0);
-}
-
-/// What was taken runs out, and what waits is taken after the end of the drain. Admin commands go on.
-#[test]
-fn a_drain_takes_nothing_more() {
-    let mut rig = Rig::new(Manner::Silent, 2);
-    rig.enable(0);
-    rig.enable(1);
-    rig.send(0, &[RING]);
-    rig.turn(Instant::now());
-    assert_eq!((rig.board.phase(), rig.board.lanes[0].flying()), (Phase::Running, 1));
-    assert_eq!(rig.board.guests[0].flying(), 1);
-    rig.orders.drain(true);
-    rig.send(0, &[RING, ADMIN]);
-    rig.send(1, &[RING]);
-    rig.turn(Instant::now());
-    assert_eq!(rig.board.phase(), Phase::Draining);
-    assert_eq!((rig.waiting(0), rig.waiting(1)), (1, 1), "nothing is taken");
-    assert_eq!(rig.admin(0), 0);
-    rig.fake.state().completed = 1;
-    rig.turn(Instant::now());
-    assert_eq!(rig.board.phase(), Phase::Drained);
-    // a controller that is enabled anew is drained, too
-    rig.send(1, &[write_cc(0), write_cc(1), RING, ADMIN]);
-    rig.turn(Instant::now());
-    assert_eq!((rig.waiting(1), rig.admin(1)), (1, 0));
-    assert_eq!(rig.board.phase(), Phase::Drained);
-    rig.orders.drain(false);
-    rig.turn(Instant::now());
-    assert_eq!(rig.board.phase(), Phase::Running);
-    assert_eq!((rig.waiting(0), rig.waiting(1)), (0, 0));
-    assert_eq!(rig.board.lanes[0].flying(), 2);
-}
-
-/// Where the work on a guest was cut off, commands may be taken and not with the drive yet: these come to it first.
-#[test]
-fn a_drain_in_the_middle_of_a_guests_work() {
-    let mut rig = Rig::new(Manner::Silent, 1);
-    rig.enable(0);
-    rig.send(0, &[RING]);
-    let mediation = rig.mediation.as_mut().unwrap();
-    mediation.listen();
-    rig.fake.state().waiting.insert(0, EVENTS as u32);
-    assert!(mediation.work_guests(Instant::now()).unwrap());
-    assert_eq!(rig.waiting(0), 0);
-    rig.orders.drain(true);
-    let mediation = rig.mediation.as_mut().unwrap();
-    mediation.heed();
-    assert!(mediation.clients[0].is_finishing());
-    rig.turn(Instant::now());
-    assert_eq!(rig.board.phase(), Phase::Draining);
-    rig.send(0, &[RING]);
-    rig.turn(Instant::now());
-    assert_eq!(rig.waiting(0), 1);
-    rig.fake.state().completed = EVENTS as u32;
-    rig.turn(Instant::now());
-    assert_eq!(rig.board.phase(), Phase::Drained);
-}
-
-/// A drain wakes a thread that sleeps.
-#[test]
-fn a_drain_is_heard() {
-    let mut rig = Rig::new(Manner::Answers, 1);
-    let thread = rig.start();
-    thread::sleep(Duration::from_millis(30));
-    for (on, phase) in [(true, Phase::Drained), (false, Phase::Running)] {
-        let begin = Instant::now();
-        rig.orders.drain(on);
-        while rig.board.phase() != phase {
-            assert!(begin.elapsed() < Duration::from_millis(900), "it waited for its round");
-            thread::sleep(Duration::from_millis(1));
-        }
-    }
-    rig.stop.ask();
-    thread.join().unwrap();
-}
-
-#[test]
-fn each_state_of_a_guest_is_shown() {
-    let mut rig = Rig::new(Manner::Silent, 1);
-    let after = |rig: &mut Rig, accesses: &[Access]| {
-        rig.send(0, accesses);
-        rig.turn(Instant::now());
-        rig.board.guests[0].state()
-    };
-    assert_eq!(after(&mut rig, &[]), GuestState::Waiting);
-    rig.guests[0].connect(None).unwrap();
-    assert_eq!(after(&mut rig, &[Access::Master(true)]), GuestState::Connected);
-    assert_eq!(after(&mut rig, &[write_cc(1), RING]), GuestState::Enabled);
-    assert_eq!(after(&mut rig, &[Access::Disconnect]), GuestState::Ending);
-    rig.fake.state().completed = 1;
-    assert_eq!(after(&mut rig, &[]), GuestState::Waiting);
-    rig.guests[0].connect(None).unwrap();
-    rig.fake.state().fatal = true;
-    assert_eq!(after(&mut rig, &[write_cc(1)]), GuestState::Failed);
-    rig.fake.state().fatal = false;
-    assert_eq!(after(&mut rig, &[write_cc(0)]), GuestState::Connected);
 }
 
 #[test]

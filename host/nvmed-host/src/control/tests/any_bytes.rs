@@ -24,7 +24,9 @@ impl Random {
 
 /// A line that is a request, or nearly one.
 fn example(random: &mut Random) -> Vec<u8> {
-    const PARTS: [&str; 18] = [
+    const PARTS: [&str; 20] = [
+        "\"request\":\"limit\"",
+        "\"guest\":1",
         "\"request\":\"figures\"",
         "\"format\":\"prometheus\"",
         "\"version\":1",

@@ -28,6 +28,22 @@ fn each_request() {
             r#"{"version":1,"request":"figures","format":"prometheus"}"#,
             Request::Figures(Format::Prometheus),
         ),
+        (
+            r#"{"version":1,"request":"limit","guest":15,"iops":1,"bytes":null}"#,
+            Request::Limit {
+                guest: 15,
+                iops: Some(Some(1)),
+                bytes: Some(None),
+            },
+        ),
+        (
+            r#"{"version":1,"request":"limit","guest":0,"bytes":131072}"#,
+            Request::Limit {
+                guest: 0,
+                iops: None,
+                bytes: Some(Some(131_072)),
+            },
+        ),
         (r#"{"version":1,"request":"drain"}"#, wait(30)),
         (r#"{"version":1,"request":"drain","wait":0}"#, wait(0)),
         (r#"{"version":1,"request":"drain","wait":600}"#, wait(600)),
@@ -91,6 +107,24 @@ fn what_is_wrong_is_said() {
         ),
     ] {
         assert_eq!(said(line), words, "{line}");
+    }
+    for (fields, words) in [
+        ("", "the field \"guest\" is missing"),
+        (",\"guest\":16", "the field \"guest\" is no whole number from 0 to 15"),
+        (
+            ",\"guest\":0,\"iops\":0",
+            "the field \"iops\" is no whole number from 1 to 10000000, and not null",
+        ),
+        (
+            ",\"guest\":0,\"iops\":\"7\"",
+            "the field \"iops\" is no whole number from 1 to 10000000, and not null",
+        ),
+        (
+            ",\"guest\":0,\"bytes\":131071",
+            "the field \"bytes\" is no whole number from 131072 to 1099511627776, and not null",
+        ),
+    ] {
+        assert_eq!(said(&format!("{{\"version\":1,\"request\":\"limit\"{fields}}}")), words);
     }
     let format = "the field \"format\" is no name of a format: there are \"json\" and \"prometheus\"";
     assert_eq!(said(r#"{"version":1,"request":"figures","format":"text"}"#), format);

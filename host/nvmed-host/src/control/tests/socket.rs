@@ -13,6 +13,7 @@ use crate::config::Config;
 use crate::control::connection::{HALF, MOST_REQUESTS};
 use crate::control::desk::{Desk, Facts};
 use crate::control::{Control, MOST_CLIENTS};
+use crate::mediation::limits::Limit;
 use crate::mediation::orders::Orders;
 use crate::mediation::wake::Bell;
 use crate::mediation::Stop;
@@ -36,7 +37,8 @@ impl Rig {
             guest 1 memory 4K\nextent 1 8 4\nextent 1 16 4\nshare 1 7\nlisten 1 b\n";
         let config = Config::parse(text.as_bytes()).unwrap();
         let board = Arc::new(Board::new(2, 2).unwrap());
-        let orders = Arc::new(Orders::new(Arc::new(Bell::new().unwrap())));
+        let limits = [Limit::default(); 2];
+        let orders = Arc::new(Orders::new(Arc::new(Bell::new().unwrap()), &limits));
         let end = Stop::new(Arc::new(Bell::new().unwrap()));
         let desk = Desk::new(Facts::of(&config), Arc::clone(&board), Arc::clone(&orders), end.clone());
         let listener = Listener::bind_for_operators(&path).unwrap();
@@ -48,6 +50,11 @@ impl Rig {
             end,
             control: Some(control),
         }
+    }
+
+    /// Shows a phase, after all orders.
+    fn show(&self, phase: Phase) {
+        self.board.show_phase(phase, self.orders.changes());
     }
 
     fn connect(&self) -> UnixStream {
@@ -112,6 +119,7 @@ fn a_state_is_what_is_shown() {
     );
     let guest = serde_json::json!({
         "guest": 1, "state": "enabled", "comes": "listen", "memory": 4096, "blocks": 8, "share": 7, "in_flight": 3,
+        "limit": { "iops": null, "bytes": null },
     });
     assert_eq!(state["guests"][1], guest);
     assert_eq!(state["guests"][0]["share"], 57);
@@ -142,7 +150,7 @@ fn several_requests_of_a_connection_are_answered_in_order() {
 fn a_drain_is_answered_when_commands_have_run_out() {
     let rig = Rig::new("drain");
     rig.board.lanes[0].show_flying(2);
-    rig.board.show_phase(Phase::Draining);
+    rig.show(Phase::Draining);
     let begin = Instant::now();
     let given_up = ask(&rig.path, r#"{"version":1,"request":"drain","wait":1}"#);
     assert!(begin.elapsed() >= Duration::from_secs(1));
@@ -159,13 +167,18 @@ fn a_drain_is_answered_when_commands_have_run_out() {
     // others are served meanwhile
     ask(&rig.path, STATE);
     rig.board.lanes[0].show_flying(0);
-    rig.board.show_phase(Phase::Drained);
+    // it has not heeded the last order yet
+    let orders = rig.orders.changes();
+    rig.board.show_phase(Phase::Drained, orders - 1);
+    socket.set_read_timeout(Some(Duration::from_millis(200))).unwrap();
+    assert!(socket.read(&mut byte).is_err(), "it is of an earlier drain");
+    rig.show(Phase::Drained);
     socket.set_read_timeout(Some(Duration::from_secs(20))).unwrap();
     let mut socket = BufReader::new(socket);
     let drained = serde_json::json!({ "drained": true, "in_flight": 0 });
     assert_eq!(line(&mut socket).unwrap()["drain"], drained);
     // one that is waited for ends where commands are taken again
-    rig.board.show_phase(Phase::Draining);
+    rig.show(Phase::Draining);
     socket
         .get_mut()
         .write_all(b"{\"version\":1,\"request\":\"drain\"}\n")
