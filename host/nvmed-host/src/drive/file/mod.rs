@@ -43,8 +43,10 @@ use super::entry::{Status, Submission, BLOCK_BYTES};
 use super::failure::Failure;
 use super::lanes::Lanes;
 use super::prp::{SharedMemory, PAGE_BYTES};
-use super::uring::{Lasting, MOST_ZEROS};
+use super::uring::MOST_ZEROS;
 use super::{Budget, Drive, DriveError, LaneRings, Progress};
+
+pub use super::uring::Lasting;
 
 /// Bytes that are made zero before others have their turn.
 const PIECE: u64 = 1 << 22;
