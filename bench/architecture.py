@@ -36,6 +36,7 @@ DRIVES = {
     "file": "a file or a block device (io_uring)",
     "nvme": "",
     "opening": "",
+    "passthrough": "a namespace that the kernel drives",
     "qtest": "QEMU's controller",
     "vfio": "a real controller (VFIO)",
 }

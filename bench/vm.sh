@@ -10,6 +10,8 @@
 #     bench/vm.sh drive       the same, and the drive is the NVMe controller of another QEMU, which is started again, too
 #     bench/vm.sh vfio        in a virtual machine with an I/O MMU: the program drives QEMU's controller by VFIO, with a guest that writes, reads back and
 #                             compares beside a hostile one. The image is looked at as above
+#     bench/vm.sh nvme        in a virtual machine: the program drives a namespace of QEMU's controller by the kernel's driver, by passthrough commands, with
+#                             guests as above; beside it each command, resets by the kernel, a process without rights, and a controller that goes
 #     bench/vm.sh firmware    SeaBIOS boots a boot sector from the shared drive, two guests at once, each its own; EDK2 finds it and reads a file; U-Boot finds
 #                             it, reads a file with the right sum, and writes blocks, which stand in the image where its guest's extent says
 #     bench/vm.sh machines    guests of 3 GiB, of exactly the size at which the machine's memory is split, and of 5 GiB, on q35 and on pc, two processors;
@@ -50,7 +52,7 @@ stop() {
     exit 1
 }
 
-[[ ($# == 1 && $1 =~ ^(linux|drive|vfio|firmware|machines|faults|speed|hour)$) || ($# == 2 && $1 == hour && $2 =~ ^[1-9][0-9]{0,2}$) ]] || {
+[[ ($# == 1 && $1 =~ ^(linux|drive|vfio|nvme|firmware|machines|faults|speed|hour)$) || ($# == 2 && $1 == hour && $2 =~ ^[1-9][0-9]{0,2}$) ]] || {
     sed -n '/^#     /s/^#     //p' "$0" >&2
     exit 2
 }

@@ -4,7 +4,8 @@
 //!
 //! PROGRAM is `nvmed-host` over the library, IMAGE the file for its drive, which is created and removed again. The guest waits for interrupts, and does PAUSE
 //! microseconds (30) of work for each command, as a machine does. DEPTH commands are on their way, or 1 and 16. With three processors or more the program has
-//! the last one, and the guest the first one.
+//! the last one, and the guest the first one. First it says what the figures of `nvmed_host::figures` take of that, as the best of many rounds, so that other
+//! work on the machine does not count.
 
 #[path = "../tests/client/mod.rs"]
 mod client;
@@ -15,6 +16,7 @@ use std::collections::HashMap;
 use std::error::Error;
 use std::ffi::OsString;
 use std::fs;
+use std::hint::black_box;
 use std::io;
 use std::path::{Path, PathBuf};
 use std::process::{Child, Command};
@@ -23,6 +25,7 @@ use std::time::{Duration, Instant};
 use guest::{Folder, Guest, BYTES, MIB};
 use nix::sched::{sched_getaffinity, sched_setaffinity, CpuSet};
 use nix::unistd::Pid;
+use nvmed_host::figures::GuestFigures;
 
 type Failure = Box<dyn Error>;
 
@@ -105,6 +108,36 @@ fn pin(thread: Pid, processor: usize) -> Result<(), Failure> {
     let mut set = CpuSet::new();
     set.set(processor)?;
     Ok(sched_setaffinity(thread, &set)?)
+}
+
+/// The least nanoseconds that `work` takes, of rounds of so many calls.
+fn least(mut work: impl FnMut(u32)) -> f64 {
+    const CALLS: u32 = 10_000;
+    let rounds = (0..200).map(|_| {
+        let begin = Instant::now();
+        (0..CALLS).for_each(&mut work);
+        begin.elapsed()
+    });
+    rounds.min().unwrap_or_default().as_nanos() as f64 / f64::from(CALLS)
+}
+
+/// What is done for a command's figures when it is taken, and when it has ended; and a reading of the clock, of which each round has one more.
+fn measure_figures() {
+    let figures = GuestFigures::default();
+    let mut taken = [(nvmed_host::figures::Command::default(), Instant::now()); 64];
+    let (now, mut entry) = (Instant::now(), [0; 64]);
+    let command = least(|call| {
+        entry[0] = 1 + (call & 1) as u8;
+        entry[48] = call as u8;
+        let place = &mut taken[call as usize % 64];
+        *place = (nvmed_host::figures::Command::of(black_box(&entry)), now);
+        let later = black_box(now + Duration::from_nanos(u64::from(call) << 8));
+        figures.note(place.0, false, Some(later.saturating_duration_since(place.1)));
+    });
+    let clock = least(|_call| {
+        black_box(Instant::now().max(now));
+    });
+    println!("Figures: {command:.1} ns a command, and {clock:.1} ns for the clock, once in a round with commands");
 }
 
 /// A guest that connects once the program listens.
@@ -231,6 +264,7 @@ fn main() -> Result<(), Failure> {
     if depths.iter().any(|depth| !(1..=16).contains(depth)) {
         return Err("DEPTH is 1 to 16".into());
     }
+    measure_figures();
     let folder = Folder::new("cost");
     let program = Program::start(Path::new(program), &folder, Path::new(image))?;
     let mut guest = connect(&folder.path("g0"))?;

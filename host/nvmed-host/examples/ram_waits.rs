@@ -1,17 +1,24 @@
-//! How long a guest's commands wait while another guest's long commands go on, on the simulated drive.
+//! How long a guest's commands wait while another guest's long commands go on, on the simulated drive, and on that in a file.
 //!
-//!     cargo run --release --example ram_waits -- [FILE]
+//!     cargo run --release --example ram_waits -- [FILE [direct|allocated]]
 //!
 //! Both guests' commands come by the same lane. One thread rings doorbells and lets the drive work, as the mediator's thread does; the times are from the
-//! doorbell to the completion of commands of 4 KiB. Without FILE the drive is in memory; FILE is created and removed again. The drive has 488 MiB.
+//! doorbell to the completion of commands of 4 KiB. Without FILE the drive is in memory; FILE is created and removed again. With a further word it is that of
+//! `drive file`, by io_uring and direct I/O, else that of `drive ram`; with `allocated` the file has all of its room. The drive has 488 MiB.
+//!
+//! A machine with other work lets threads wait for a processor. What the thread of this process that waited longest for one has waited meanwhile is taken off.
 
 use std::collections::HashMap;
+use std::fs::File;
+use std::os::fd::AsRawFd;
+use std::os::unix::fs::FileExt;
 use std::path::PathBuf;
 use std::sync::Arc;
 use std::time::{Duration, Instant};
 
 use nix::poll::{poll, PollFd, PollFlags, PollTimeout};
 use nix::sys::time::TimeValLike;
+use nvmed_host::drive::file::{FileDrive, Lasting};
 use nvmed_host::drive::prp::SharedMemory;
 use nvmed_host::drive::ram::RamDrive;
 use nvmed_host::drive::{Budget, Drive, LaneRings};
@@ -52,6 +59,47 @@ impl SharedMemory for Memory {
     }
 }
 
+// SAFETY: the region keeps its place until it is dropped, and its bytes are given out as volatile slices alone.
+unsafe impl Lasting for Memory {}
+
+/// How long each thread of this process has waited for a processor, by the kernel's files.
+struct Delays(Vec<File>);
+
+impl Delays {
+    fn of_threads() -> Result<Self, Failure> {
+        let threads = std::fs::read_dir("/proc/self/task")?;
+        let files = threads.map(|thread| File::open(thread?.path().join("schedstat")));
+        Ok(Self(files.collect::<Result<_, _>>()?))
+    }
+
+    fn read(&self) -> Result<Vec<Duration>, Failure> {
+        let mut text = [0; 64];
+        let mut delays = Vec::with_capacity(self.0.len());
+        for file in &self.0 {
+            let length = file.read_at(&mut text, 0)?;
+            let second = std::str::from_utf8(&text[..length])?.split_whitespace().nth(1);
+            delays.push(Duration::from_nanos(second.ok_or("a thread without times")?.parse()?));
+        }
+        Ok(delays)
+    }
+}
+
+/// When a command was put, and what threads had waited until then.
+struct Begun(Instant, Vec<Duration>);
+
+impl Begun {
+    /// The time since then, without what the thread that waited longest for a processor has waited.
+    fn elapsed(&self, delays: &Delays) -> Result<Duration, Failure> {
+        let elapsed = self.0.elapsed();
+        if self.1.is_empty() {
+            return Ok(elapsed);
+        }
+        let waited = delays.read()?.into_iter().zip(&self.1);
+        let longest = waited.map(|(now, then)| now.saturating_sub(*then)).max();
+        Ok(elapsed.saturating_sub(longest.unwrap_or_default()))
+    }
+}
+
 /// The driver's side of the lane.
 struct Driver {
     memory: Arc<Memory>,
@@ -60,8 +108,10 @@ struct Driver {
     head: u32,
     phase: bool,
     last: u16,
-    begun: HashMap<u16, Instant>,
-    longest_turn: Duration,
+    begun: HashMap<u16, Begun>,
+    delays: Delays,
+    /// Whether the times of commands count now.
+    is_measured: bool,
     /// Whether the last turn left something to do at once.
     more: bool,
 }
@@ -82,7 +132,12 @@ impl Driver {
         entry[48..52].copy_from_slice(&d12.to_le_bytes());
         self.memory.all().write_slice(&entry, self.tail as usize * 64)?;
         self.tail = (self.tail + 1) % RINGS.entries;
-        self.begun.insert(self.last, Instant::now());
+        let delays = if self.is_measured {
+            self.delays.read()?
+        } else {
+            Vec::new()
+        };
+        self.begun.insert(self.last, Begun(Instant::now(), delays));
         Ok(self.last)
     }
 
@@ -92,9 +147,7 @@ impl Driver {
 
     /// Lets the drive work once, and sleeps where it has nothing to do.
     fn turn(&mut self) -> Result<Vec<(u16, Duration)>, Failure> {
-        let begin = Instant::now();
         let progress = self.drive.work(TURN)?;
-        self.longest_turn = self.longest_turn.max(begin.elapsed());
         self.more = progress.more;
         let mut seen = Vec::new();
         loop {
@@ -111,7 +164,7 @@ impl Driver {
             self.head = (self.head + 1) % RINGS.entries;
             self.phase ^= self.head == 0;
             let begun = self.begun.remove(&(last as u16)).ok_or("a completion of no command")?;
-            seen.push((last as u16, begun.elapsed()));
+            seen.push((last as u16, begun.elapsed(&self.delays)?));
         }
         self.drive.ring_completion(0, self.head)?;
         if seen.is_empty() && !progress.more {
@@ -144,7 +197,7 @@ impl Driver {
 
     /// Runs the victim's commands, one after another, until the others are done; the longest of each opcode.
     fn measure(&mut self, what: &str, opcodes: &[(u8, &str)]) -> Result<(), Failure> {
-        self.longest_turn = Duration::ZERO;
+        self.is_measured = true;
         let begin = Instant::now();
         self.ring()?;
         let others = self.begun.len();
@@ -172,14 +225,14 @@ impl Driver {
             }
         }
         let whole = begin.elapsed();
+        self.is_measured = false;
         self.wait()?;
         let times = opcodes
             .iter()
             .zip(longest)
             .map(|((_, name), time)| format!("{name} {:.3} ms", time.as_secs_f64() * 1e3));
-        let turn = self.longest_turn.as_secs_f64() * 1e3;
         println!(
-            "{what}: {:.1} ms; of {count} others the longest {}; longest turn {turn:.3} ms",
+            "{what}: {:.1} ms; of {count} others the longest {}",
             whole.as_secs_f64() * 1e3,
             times.collect::<Vec<_>>().join(", ")
         );
@@ -213,6 +266,7 @@ fn cost(driver: &mut Driver, what: &str, opcode: u8) -> Result<(), Failure> {
 
 fn main() -> Result<(), Failure> {
     let image = std::env::args_os().nth(1).map(PathBuf::from);
+    let kind = std::env::args_os().nth(2);
     let memory = Arc::new(Memory(MmapRegion::new(MEMORY)?));
     for i in 0..31u64 {
         memory
@@ -228,6 +282,19 @@ fn main() -> Result<(), Failure> {
     }
     let mut drive: Box<dyn Drive> = match &image {
         None => Box::new(RamDrive::in_memory(Arc::clone(&memory), BLOCKS)?),
+        Some(path) if kind.is_some() => {
+            let file = File::create_new(path)?;
+            file.set_len(BLOCKS * 512)?;
+            if kind.is_some_and(|word| word == "allocated") {
+                nix::fcntl::fallocate(
+                    file.as_raw_fd(),
+                    nix::fcntl::FallocateFlags::empty(),
+                    0,
+                    i64::try_from(BLOCKS * 512)?,
+                )?;
+            }
+            Box::new(FileDrive::open(Arc::clone(&memory), path, BLOCKS)?)
+        }
         Some(path) => Box::new(RamDrive::in_file(Arc::clone(&memory), BLOCKS, path)?),
     };
     println!("{}", drive.describe());
@@ -241,7 +308,8 @@ fn main() -> Result<(), Failure> {
         phase,
         last,
         begun: HashMap::new(),
-        longest_turn: Duration::ZERO,
+        delays: Delays::of_threads()?,
+        is_measured: false,
         more: false,
     };
     let few: &[(u8, &str)] = &[(2, "Read"), (1, "Write")];

@@ -15,10 +15,14 @@ use nix::sys::resource::{getrlimit, setrlimit, Resource};
 use nvmed::Mediator;
 use vm_memory::VolatileSlice;
 
+use crate::board::Board;
 use crate::config::{Config, Connection, Doorbells, DriveConfig, GuestConfig, Interrupts, BLOCK};
+use crate::control::desk::{Desk, Facts};
+use crate::control::Control;
 use crate::drive::file::FileDrive;
 use crate::drive::nvme::Needs;
 use crate::drive::opening::{Open, OpeningDrive, Tell};
+use crate::drive::passthrough::PassthroughDrive;
 use crate::drive::prp::SharedMemory;
 use crate::drive::qtest::FoundQemu;
 use crate::drive::ram::RamDrive;
@@ -30,6 +34,7 @@ use crate::guest::{self, Guest, Report, Reports, Source};
 use crate::interrupts::Signals as VectorSignals;
 use crate::layout::{Layout, LayoutError, Room, ALL};
 use crate::mediation::mailbox::mailbox;
+use crate::mediation::orders::Orders;
 use crate::mediation::outbox::Outbox;
 use crate::mediation::side::Library;
 use crate::mediation::wake::Bell;
@@ -97,6 +102,14 @@ pub enum HostError {
     /// A guest's thread did not begin in time.
     #[error("a guest did not begin within {} seconds", BEGIN_WAIT.as_secs())]
     Late,
+    /// The control socket cannot be listened on.
+    #[error("the control socket (line {line}): {error}")]
+    Control {
+        /// Its line.
+        line: u32,
+        /// Why not.
+        error: ProcessError,
+    },
     /// The kernel has no descriptor or no thread left.
     #[error("a thread or descriptor cannot be had: {0}")]
     Kernel(#[from] io::Error),
@@ -134,6 +147,10 @@ pub struct Host {
     reports: Receiver<Report>,
     opened: Receiver<Result<String, DriveError>>,
     bell: Arc<Bell>,
+    board: Arc<Board>,
+    control: Option<Control>,
+    /// Whether an operator has asked for the end.
+    ending: Stop,
     lines: Lines,
     /// Guests that have not begun, of those that have threads; and how long they may take.
     beginning: usize,
@@ -195,9 +212,14 @@ impl Host {
         let mediator = set_up(config, &layout, &window)?;
         let open = find(&layout, &window).map_err(|error| drive_error(config, error))?;
         let sources = listen(config)?;
+        let listener = listen_for_operators(config)?;
         let own_bell = Arc::new(Bell::new()?);
+        let ending = Stop::new(Arc::clone(&own_bell));
         let (tell, opened) = teller(&own_bell);
         let bell = Arc::new(Bell::new()?);
+        let board = Arc::new(Board::new(config.lanes as usize, config.guests.len())?);
+        let limits: Vec<_> = config.guests.iter().map(|guest| guest.limit).collect();
+        let orders = Arc::new(Orders::new(Arc::clone(&bell), &limits));
         let (queue, reports) = channel();
         let reporter = Reports {
             queue,
@@ -205,7 +227,7 @@ impl Host {
         };
         let guests = config.guests.iter().zip(memories).zip(sources).enumerate();
         let (posts, parts) = guests
-            .map(|(number, ((is, memory), source))| ends(number, is, memory, source, &bell, &reporter))
+            .map(|(number, ((is, memory), source))| ends(number, is, memory, source, &bell, &board, &reporter))
             .collect::<Result<(Vec<_>, Vec<_>), _>>()?;
         let mediation = Mediation::new(mediation::Parts {
             side: Library::new(mediator),
@@ -214,6 +236,8 @@ impl Host {
             drive: Box::new(OpeningDrive::new(open, tell)?),
             posts,
             bell,
+            orders: Arc::clone(&orders),
+            board: Arc::clone(&board),
             spin: config.spin,
             counts: counting.then(|| counts(config)),
         })
@@ -226,11 +250,14 @@ impl Host {
         let mut host = Self {
             mediation,
             stop,
+            control: None,
+            ending: ending.clone(),
             threads: Vec::new(),
             waiting,
             reports,
             opened,
             bell: own_bell,
+            board: Arc::clone(&board),
             lines: Lines {
                 drive: config.drive_line,
                 connections: config.guests.iter().map(|guest| guest.lines.connection).collect(),
@@ -239,7 +266,14 @@ impl Host {
             begin_by: Instant::now(),
             left: config.guests.len(),
         };
-        match host.start(listening) {
+        let started = host.start(listening).and_then(|()| {
+            if let Some(listener) = listener {
+                let desk = Desk::new(Facts::of(config), board, orders, ending);
+                host.control = Some(Control::start(listener, desk)?);
+            }
+            Ok(())
+        });
+        match started {
             Ok(()) => Ok(host),
             Err(error) => {
                 host.end();
@@ -262,13 +296,17 @@ impl Host {
         Ok(())
     }
 
-    /// Waits until all guests have ended, the drive has failed, or a signal has come. QEMUs are started once the drive is there.
+    /// Waits until all guests have ended, the drive has failed, a signal has come, or an operator has asked for the end. QEMUs are started once the drive is there.
     ///
     /// # Errors
     ///
     /// The drive cannot be opened, or a guest cannot begin. [`Host::end`] is to be called then, too.
     pub fn wait(&mut self, signals: &Signals) -> Result<(), HostError> {
         while !self.is_over()? {
+            if self.ending.is_asked() {
+                tracing::info!("ends by the control socket");
+                return Ok(());
+            }
             match signals.take() {
                 Ok(None) => {}
                 Ok(Some(signal)) => {
@@ -281,7 +319,7 @@ impl Host {
                 }
             }
             self.bell.lie_down();
-            if !self.is_over()? {
+            if !self.is_over()? && !self.ending.is_asked() {
                 let mut fds = [
                     PollFd::new(self.bell.fd(), PollFlags::POLLIN),
                     PollFd::new(signals.wake(), PollFlags::POLLIN),
@@ -304,6 +342,7 @@ impl Host {
             let line = self.lines.drive;
             let words = opened.map_err(|error| HostError::Drive { line, error })?;
             tracing::info!("the drive: {words}");
+            self.board.drive.open(&words);
             let waiting = std::mem::take(&mut self.waiting);
             self.start(waiting)?;
         }
@@ -324,7 +363,10 @@ impl Host {
     }
 
     /// Ends all threads, and closes the drive.
-    pub fn end(self) -> Outcome {
+    pub fn end(mut self) -> Outcome {
+        if let Some(control) = self.control.take() {
+            control.end();
+        }
         for guest in &self.threads {
             guest.outbox.stop();
         }
@@ -359,6 +401,7 @@ fn ends(
     memory: GuestMemory,
     source: Source,
     mediators_bell: &Arc<Bell>,
+    board: &Arc<Board>,
     reports: &Reports,
 ) -> Result<(Post, guest::Parts), HostError> {
     let (sender, mailbox) = mailbox(Arc::clone(mediators_bell));
@@ -380,6 +423,7 @@ fn ends(
         page: is.doorbells == Doorbells::Page,
         pin,
         source,
+        board: Arc::clone(board),
         reports: reports.clone(),
     };
     Ok((post, parts))
@@ -419,7 +463,9 @@ fn raise_limits() {
 
 fn plan(config: &Config) -> Result<Layout, HostError> {
     match &config.drive {
-        DriveConfig::Ram { .. } | DriveConfig::File { .. } => Ok(Layout::plan(config, Room::Reaches(&[ALL]))?),
+        DriveConfig::Ram { .. } | DriveConfig::File { .. } | DriveConfig::Nvme { .. } => {
+            Ok(Layout::plan(config, Room::Reaches(&[ALL]))?)
+        }
         DriveConfig::Qemu { memory, .. } => {
             let line = config.drive_line;
             let file = GuestFile::existing(memory).map_err(|error| HostError::DriveFile { line, error })?;
@@ -489,6 +535,16 @@ fn listen(config: &Config) -> Result<Vec<Source>, HostError> {
         .collect()
 }
 
+/// The control socket, where the configuration has one.
+fn listen_for_operators(config: &Config) -> Result<Option<Listener>, HostError> {
+    let Some(control) = &config.control else {
+        return Ok(None);
+    };
+    let line = control.line;
+    let listener = Listener::bind_for_operators(&control.path);
+    listener.map(Some).map_err(|error| HostError::Control { line, error })
+}
+
 /// All have the least first, so that no share is too large on the way.
 fn share<M: nvmed::HostMemory>(mediator: &mut Mediator<M>, config: &Config) -> Result<(), nvmed::Error> {
     for (guest, is) in (0..).zip(&config.guests) {
@@ -527,6 +583,10 @@ fn find_drive(config: &Config, layout: &Layout, window: &Arc<Window>) -> Result<
         DriveConfig::File { path } => {
             let blocks = config.blocks();
             Box::new(move || Ok(Box::new(FileDrive::open(memory, &path, blocks)?)))
+        }
+        DriveConfig::Nvme { path } => {
+            let blocks = config.blocks();
+            Box::new(move || Ok(Box::new(PassthroughDrive::open(memory, &path, blocks)?)))
         }
         DriveConfig::Qemu { socket, .. } => {
             let found = FoundQemu::at(&socket, reached, needs)?;

@@ -2,9 +2,13 @@
 //!
 //! A module has one task. None of this is proved: what a guest, its QEMU or a drive sends is checked where it enters.
 
+pub mod board;
 pub mod config;
+pub mod control;
+pub mod ctl;
 pub mod doorbells;
 pub mod drive;
+pub mod figures;
 pub mod guest;
 pub mod host;
 pub mod interrupts;

@@ -137,7 +137,7 @@ pub struct Listener {
     path: PathBuf,
     folder: Option<PrivateFolder>,
     /// Whose processes may connect. `None`: whose may is said by the file's mode and by its folder.
-    user: Option<Uid>,
+    users: Option<Vec<Uid>>,
 }
 
 /// The user of this name, or of this number in decimal digits.
@@ -162,8 +162,21 @@ impl Listener {
     ///
     /// Errors: [`ProcessError::InUse`], [`ProcessError::NoSocket`], [`ProcessError::Listen`].
     pub fn bind(path: &Path, user: Option<Uid>) -> Result<Self, ProcessError> {
+        let mode = if user.is_some() { 0o666 } else { 0o600 };
+        Self::bind_with(path, mode, user.map(|user| vec![user]))
+    }
+
+    /// Listens at a path for this program's user and root: by the mode, and by whose the processes are that connect. What is there is dealt with as by
+    /// [`Listener::bind`].
+    ///
+    /// Errors: as of [`Listener::bind`].
+    pub fn bind_for_operators(path: &Path) -> Result<Self, ProcessError> {
+        Self::bind_with(path, 0o600, Some(vec![Uid::effective(), Uid::from_raw(0)]))
+    }
+
+    fn bind_with(path: &Path, mode: u32, users: Option<Vec<Uid>>) -> Result<Self, ProcessError> {
         clear(path)?;
-        Self::at(path.into(), None, user).map_err(|error| ProcessError::Listen {
+        Self::at(path.into(), None, mode, users).map_err(|error| ProcessError::Listen {
             path: path.into(),
             error,
         })
@@ -175,17 +188,16 @@ impl Listener {
         // a socket's path may have 107 bytes: that of the folder may be longer
         let path = PathBuf::from(path_of(folder.descriptor.as_raw_fd(), "/socket"));
         let parent = folder.path.clone();
-        Self::at(path, Some(folder), None).map_err(|error| ProcessError::Listen { path: parent, error })
+        Self::at(path, Some(folder), 0o600, None).map_err(|error| ProcessError::Listen { path: parent, error })
     }
 
-    fn at(path: PathBuf, folder: Option<PrivateFolder>, user: Option<Uid>) -> io::Result<Self> {
+    fn at(path: PathBuf, folder: Option<PrivateFolder>, mode: u32, users: Option<Vec<Uid>>) -> io::Result<Self> {
         let socket = UnixListener::bind(&path)?;
-        let mode = if user.is_some() { 0o666 } else { 0o600 };
         let listener = Self {
             socket,
             path,
             folder,
-            user,
+            users,
         };
         fs::set_permissions(&listener.path, fs::Permissions::from_mode(mode))?;
         listener.socket.set_nonblocking(true)?;
@@ -206,14 +218,17 @@ impl Listener {
         }
     }
 
-    /// Whether the process that connected is the named user's. The kernel has kept whose it was then.
+    /// Whether the process that connected is a user's who may. The kernel has kept whose it was then.
     fn admit(&self, socket: &UnixStream) -> io::Result<()> {
-        let Some(user) = self.user else { return Ok(()) };
+        let Some(users) = &self.users else { return Ok(()) };
         let peer = getsockopt(socket, PeerCredentials)?.uid();
-        if peer == user.as_raw() {
+        if users.iter().any(|user| user.as_raw() == peer) {
             return Ok(());
         }
-        let what = format!("it is of user {peer}, and user {user} is the one that may connect");
+        let what = match users.as_slice() {
+            [user] => format!("it is of user {peer}, and user {user} is the one that may connect"),
+            _ => format!("it is of user {peer}, and this program's own user and root may connect"),
+        };
         Err(io::Error::new(io::ErrorKind::PermissionDenied, what))
     }
 

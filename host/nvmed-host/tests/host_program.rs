@@ -21,13 +21,17 @@ fn words_and_statuses() {
     for line in [
         "drive ram SIZE [FILE]",
         "drive file PATH",
+        "drive nvme /dev/ng0n1",
         "drive qemu",
         "drive vfio",
         "lanes N",
         "spin N",
+        "control PATH",
         "guest G memory SIZE [FILE]",
         "extent G BASE BLOCKS",
         "share G TAGS",
+        "limit G iops N",
+        "limit G bytes SIZE",
         "descriptors G N",
         "version G",
         "machine G",
@@ -88,6 +92,18 @@ fn a_signal_ends_it_cleanly() {
             assert_eq!(bytes, [7; 4096]);
         }
     }
+}
+
+/// A drive by the kernel's passthrough commands is an NVMe namespace, and nothing else.
+#[test]
+fn a_device_that_is_no_namespace_is_refused() {
+    let folder = Folder::new("no-namespace");
+    let text = configuration(&folder, 1, "").replace("drive ram 16M", "drive nvme /dev/null");
+    let mut program = Program::start(&folder, &text, &[]);
+    assert_eq!(program.status(), 1);
+    let said = program.said();
+    let words = "line 1: the drive: /dev/null: is no generic NVMe device such as /dev/ng0n1";
+    assert!(said.contains(words), "{said}");
 }
 
 /// A file that is there is the drive: it is opened, locked, written directly, and keeps its length.

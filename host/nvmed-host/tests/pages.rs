@@ -47,7 +47,7 @@ fn the_help_has_each_kind_of_line() {
         .unwrap();
     let text = String::from_utf8(output.stdout).unwrap();
     let (_, lines) = text.split_once("'#' begins a comment").unwrap();
-    let (lines, _) = lines.split_once("\n\nWith").unwrap();
+    let (lines, _) = lines.split_once("\n\n'nvmed-host ctl").unwrap();
     assert_eq!(first_words(lines, "  "), known());
 }
 

@@ -6,6 +6,8 @@
 #![allow(clippy::unwrap_used, clippy::expect_used, clippy::panic)]
 
 mod lanes;
+#[path = "lanes/resets.rs"]
+mod resets;
 
 use std::fs::File;
 use std::os::fd::AsFd;
@@ -21,7 +23,8 @@ use nvmed_host::drive::qtest::QtestDrive;
 use nvmed_host::drive::{Drive, DriveError};
 use nvmed_host::memory::Window;
 
-use lanes::{blocks, more, pattern, resets, Bench, BUDGET, DATA, FROM};
+use lanes::{blocks, more, pattern, Bench, BUDGET, DATA, FROM};
+use resets::resets;
 
 const PART: u64 = 0x200_0000;
 const LOW: u64 = 0x10_0000;

@@ -7,16 +7,19 @@
 #![allow(clippy::unwrap_used, clippy::expect_used, clippy::panic)]
 
 mod lanes;
+#[path = "lanes/resets.rs"]
+mod resets;
 
 use std::fs::OpenOptions;
 use std::io::{ErrorKind, Read};
 use std::os::unix::fs::OpenOptionsExt;
 use std::time::{Duration, Instant};
 
-use lanes::{blocks, more, resets, Bench, BUDGET, DATA, FROM};
+use lanes::{blocks, more, Bench, BUDGET, DATA, FROM};
 use nvmed_host::drive::nvme::Needs;
 use nvmed_host::drive::vfio::VfioDrive;
 use nvmed_host::memory::Window;
+use resets::resets;
 
 /// Data of the test end here.
 const END: u64 = FROM + 0x30_0000;

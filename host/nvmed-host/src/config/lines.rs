@@ -13,6 +13,7 @@ use super::{
     MOST_WORDS_OF_START, TAGS,
 };
 use crate::machine::Machine;
+use crate::mediation::limits::{Limit, LEAST_BYTES, MOST_BYTES, MOST_IOPS};
 
 type Outcome = Result<(), String>;
 
@@ -29,6 +30,7 @@ pub(super) struct Draft {
     pub drive: Option<Said<DriveConfig>>,
     pub lanes: Option<u32>,
     pub spin: Option<Duration>,
+    pub control: Option<Said<PathBuf>>,
     pub guests: Vec<GuestDraft>,
 }
 
@@ -42,6 +44,7 @@ pub(super) struct GuestDraft {
     pub trust: bool,
     pub extents: Vec<ExtentConfig>,
     pub share: Option<Said<u32>>,
+    pub limit: Limit,
     pub descriptors: Option<u32>,
     pub version: Option<u32>,
     pub doorbells: Option<Said<Doorbells>>,
@@ -59,7 +62,7 @@ struct Kind {
     act: fn(&mut Draft, u32, &[Vec<u8>]) -> Outcome,
 }
 
-const KINDS: [Kind; 15] = [
+const KINDS: [Kind; 17] = [
     Kind {
         name: "guest",
         least: 4,
@@ -77,6 +80,12 @@ const KINDS: [Kind; 15] = [
         least: 3,
         most: 3,
         act: Draft::on_share,
+    },
+    Kind {
+        name: "limit",
+        least: 4,
+        most: 4,
+        act: Draft::on_limit,
     },
     Kind {
         name: "descriptors",
@@ -150,6 +159,12 @@ const KINDS: [Kind; 15] = [
         most: 2,
         act: Draft::on_spin,
     },
+    Kind {
+        name: "control",
+        least: 2,
+        most: 2,
+        act: Draft::on_control,
+    },
 ];
 
 /// The versions that a guest may be shown, as the property VS has them: major in bits 31:16, minor in 15:8, tertiary in 7:0.
@@ -218,6 +233,7 @@ impl Draft {
             trust: false,
             extents: Vec::new(),
             share: None,
+            limit: Limit::default(),
             descriptors: None,
             version: None,
             doorbells: None,
@@ -292,6 +308,29 @@ impl Draft {
         Ok(())
     }
 
+    /// `limit G iops N` or `limit G bytes SIZE`
+    fn on_limit(&mut self, _line: u32, words: &[Vec<u8>]) -> Outcome {
+        let limit = &mut self.guest_of(words)?.limit;
+        match word(words, 2) {
+            b"iops" => {
+                once(&limit.iops, "the guest's limit of commands stands")?;
+                limit.iops = Some(number("the limit of commands", word(words, 3), 1, MOST_IOPS)?);
+            }
+            b"bytes" => {
+                once(&limit.bytes, "the guest's limit of bytes stands")?;
+                let bytes = size("the limit of bytes", word(words, 3), MOST_BYTES)?;
+                if bytes < LEAST_BYTES {
+                    return Err(format!(
+                        "the limit of bytes is {bytes}, and a command may have {LEAST_BYTES}"
+                    ));
+                }
+                limit.bytes = Some(bytes);
+            }
+            other => return Err(format!("the limit is neither of iops nor of bytes: {}", shown(other))),
+        }
+        Ok(())
+    }
+
     /// `machine G q35|pc`
     fn on_machine(&mut self, line: u32, words: &[Vec<u8>]) -> Outcome {
         let guest = self.guest_of(words)?;
@@ -338,6 +377,9 @@ impl Draft {
     fn on_listen(&mut self, line: u32, words: &[Vec<u8>]) -> Outcome {
         let index = self.guest_index(words)?;
         let value = path("the socket", word(words, 2), MOST_SOCKET)?;
+        if self.control.as_ref().is_some_and(|control| control.value == value) {
+            return Err(String::from("this is the control socket of a former line"));
+        }
         let same = |g: &GuestDraft| g.listen.as_ref().is_some_and(|other| other.value == value);
         let taken = self.guests.iter().position(same);
         let guest = self.guest(index)?;
@@ -384,7 +426,7 @@ impl Draft {
         Ok(())
     }
 
-    /// `drive ram SIZE [FILE]`, `drive file PATH`, `drive qemu SOCKET FILE` or `drive vfio ADDRESS`
+    /// `drive ram SIZE [FILE]`, `drive file PATH`, `drive nvme PATH`, `drive qemu SOCKET FILE` or `drive vfio ADDRESS`
     fn on_drive(&mut self, line: u32, words: &[Vec<u8>]) -> Outcome {
         once(&self.drive, "the drive stands")?;
         let value = match (word(words, 1), words.get(3)) {
@@ -396,6 +438,10 @@ impl Draft {
                 path: self.new_file("the drive", word(words, 2))?,
             },
             (b"file", Some(_)) => return Err(String::from("'drive file' has one path")),
+            (b"nvme", None) => DriveConfig::Nvme {
+                path: self.new_file("the drive", word(words, 2))?,
+            },
+            (b"nvme", Some(_)) => return Err(String::from("'drive nvme' has one path")),
             (b"qemu", Some(memory)) => DriveConfig::Qemu {
                 socket: path("the socket", word(words, 2), MOST_SOCKET)?,
                 memory: self.new_file("the drive's memory", memory)?,
@@ -407,7 +453,7 @@ impl Draft {
             },
             (kind, _) => {
                 return Err(format!(
-                    "the drive is none of ram, file, qemu and vfio: {}",
+                    "the drive is none of ram, file, nvme, qemu and vfio: {}",
                     shown(kind)
                 ))
             }
@@ -427,6 +473,18 @@ impl Draft {
     fn on_spin(&mut self, _line: u32, words: &[Vec<u8>]) -> Outcome {
         once(&self.spin, "the spin stands")?;
         self.spin = Some(Duration::from_micros(number("the spin", word(words, 1), 0, 1_000_000)?));
+        Ok(())
+    }
+
+    /// `control PATH`
+    fn on_control(&mut self, line: u32, words: &[Vec<u8>]) -> Outcome {
+        once(&self.control, "the control socket stands")?;
+        let value = path("the control socket", word(words, 1), MOST_SOCKET)?;
+        let same = |g: &GuestDraft| g.listen.as_ref().is_some_and(|other| other.value == value);
+        if let Some(guest) = self.guests.iter().position(same) {
+            return Err(format!("guest {guest} listens on this socket already"));
+        }
+        self.control = Some(Said { value, line });
         Ok(())
     }
 
@@ -456,7 +514,7 @@ impl Draft {
         let new = path(what, text, MOST_PATH)?;
         let of_drive = match self.drive.as_ref().map(|drive| &drive.value) {
             Some(DriveConfig::Ram { image, .. }) => image.as_ref(),
-            Some(DriveConfig::File { path }) => Some(path),
+            Some(DriveConfig::File { path } | DriveConfig::Nvme { path }) => Some(path),
             Some(DriveConfig::Qemu { memory, .. }) => Some(memory),
             Some(DriveConfig::Vfio { .. }) | None => None,
         };

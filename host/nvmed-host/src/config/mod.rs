@@ -18,6 +18,7 @@ use std::path::{Path, PathBuf};
 use std::time::Duration;
 
 use crate::machine::Machine;
+use crate::mediation::limits::Limit;
 
 /// The most guests.
 pub const MOST_GUESTS: usize = 16;
@@ -104,6 +105,11 @@ pub enum DriveConfig {
         /// Where it is.
         path: PathBuf,
     },
+    /// A namespace that the kernel drives: `drive nvme PATH`.
+    Nvme {
+        /// Its generic character device.
+        path: PathBuf,
+    },
     /// The controller of a QEMU: `drive qemu SOCKET FILE`.
     Qemu {
         /// Where its qtest listens.
@@ -180,6 +186,8 @@ pub struct GuestConfig {
     pub extents: Vec<ExtentConfig>,
     /// How many of a lane's 64 tags it may hold: at least one for each extent. `None`: its part of those that are left.
     pub share: Option<u32>,
+    /// How many commands and bytes a second it may have.
+    pub limit: Limit,
     /// Descriptors of a scatter gather list: 1 to 4,096.
     pub descriptors: u32,
     /// What its version register says, in that register's form (NVMe, Offset 8h: VS): 1.2 without a line.
@@ -216,6 +224,15 @@ impl GuestConfig {
     }
 }
 
+/// The control socket: `control PATH`.
+#[derive(Clone, Debug, PartialEq, Eq)]
+pub struct ControlConfig {
+    /// Where it listens.
+    pub path: PathBuf,
+    /// Where it was written.
+    pub line: u32,
+}
+
 /// A configuration.
 #[derive(Clone, Debug, PartialEq, Eq)]
 pub struct Config {
@@ -227,6 +244,8 @@ pub struct Config {
     pub lanes: u32,
     /// How long the program goes on without a pause after its last event: at most a second.
     pub spin: Duration,
+    /// Where operators' requests are taken, if they are.
+    pub control: Option<ControlConfig>,
     /// The guests: 1 to 16.
     pub guests: Vec<GuestConfig>,
 }

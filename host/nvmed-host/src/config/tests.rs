@@ -5,6 +5,8 @@ use std::os::unix::ffi::OsStrExt;
 use super::*;
 
 mod any_bytes;
+mod control;
+mod limits;
 
 const GOOD: &str = r#"# two guests
 drive ram 1M /var/tmp/disk   # 2,048 blocks
@@ -241,6 +243,7 @@ fn lines_and_words() {
         "start 0",
         "drive ram",
         "drive file",
+        "drive nvme",
         "lanes",
         "spin",
         "trust",
@@ -430,9 +433,14 @@ fn files() {
         "guest 0 memory 4K m\ndrive file m\n",
         &format!("line 2: the drive {taken}"),
     );
+    refused(
+        "guest 0 memory 4K m\ndrive nvme m\n",
+        &format!("line 2: the drive {taken}"),
+    );
     for (form, what, most) in [
         ("drive ram 4K PATH", "the drive", MOST_PATH),
         ("drive file PATH", "the drive", MOST_PATH),
+        ("drive nvme PATH", "the drive", MOST_PATH),
         ("guest 0 memory 4K PATH", "the guest's memory", MOST_PATH),
         ("drive qemu a PATH", "the drive's memory", MOST_PATH),
         ("drive qemu PATH a", "the socket", MOST_SOCKET),
@@ -718,13 +726,18 @@ fn drives() {
     assert_eq!(drive, DriveConfig::File { path });
     refused(
         "drive disk 4K\n",
-        "line 1: the drive is none of ram, file, qemu and vfio: disk",
+        "line 1: the drive is none of ram, file, nvme, qemu and vfio: disk",
     );
     refused(
         "drive qemu a\n",
         "line 1: 'drive qemu' has a socket and the file of its memory",
     );
     refused("drive file a b\n", "line 1: 'drive file' has one path");
+    refused("drive nvme a b\n", "line 1: 'drive nvme' has one path");
+    refused("drive nvme \"\"\n", "line 1: the drive has an empty path");
+    let drive = good(&format!("drive nvme /dev/ng0n1\n{G0}extent 0 7 9000\nlisten 0 a\n")).drive;
+    let path = PathBuf::from("/dev/ng0n1");
+    assert_eq!(drive, DriveConfig::Nvme { path });
     refused("drive vfio 0000:01:00.0 a\n", "line 1: 'drive vfio' has one address");
     for address in [
         "01:00.0",

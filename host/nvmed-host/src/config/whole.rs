@@ -4,7 +4,9 @@
 use std::time::Duration;
 
 use super::lines::{Draft, GuestDraft, Said};
-use super::{Config, Connection, Doorbells, DriveConfig, GuestConfig, GuestLines, Interrupts, BLOCK, TAGS};
+use super::{
+    Config, Connection, ControlConfig, Doorbells, DriveConfig, GuestConfig, GuestLines, Interrupts, BLOCK, TAGS,
+};
 use crate::machine::{Machine, QEMU_MEMORY_STEP};
 use crate::process;
 
@@ -38,6 +40,10 @@ pub(super) fn finish(draft: Draft, last: u32) -> Result<Config, Fault> {
         drive_line: drive.line,
         lanes: draft.lanes.unwrap_or(1),
         spin: draft.spin.unwrap_or(SPIN),
+        control: draft.control.map(|said| ControlConfig {
+            path: said.value,
+            line: said.line,
+        }),
         guests,
     })
 }
@@ -86,6 +92,7 @@ fn finish_guest(number: usize, guest: GuestDraft, drive: &DriveConfig) -> Result
         trust: guest.trust,
         extents: guest.extents,
         share: guest.share.as_ref().map(|share| share.value),
+        limit: guest.limit,
         descriptors: guest.descriptors.unwrap_or(DESCRIPTORS),
         version: guest.version.unwrap_or(VERSION),
         doorbells: doorbells_of(number, guest.doorbells, interrupts)?,

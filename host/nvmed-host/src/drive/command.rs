@@ -54,6 +54,8 @@ pub struct Extent {
 pub struct Clearing {
     /// What is still to be made zero: no two meet, the last comes first.
     pub left: Vec<Extent>,
+    /// Of the last of these the bytes before this one are known to be data, which is to be made zero.
+    pub data_to: u64,
     /// Whether the zeros are durable before the completion is there (Force Unit Access).
     pub forced: bool,
     /// Whether the blocks' room is given back: the command deallocates.
@@ -91,13 +93,7 @@ impl Step {
     ///
     /// The status with which the command is refused.
     pub fn of<M: SharedMemory + ?Sized>(entry: &Submission, memory: &M, blocks: u64) -> Result<Option<Step>, Status> {
-        if !entry.is_plain() {
-            return Err(Status::INVALID_FIELD);
-        }
-        let is_flush = entry.opcode() == opcode::FLUSH;
-        if entry.namespace() != NAMESPACE && !(is_flush && entry.namespace() == ALL_NAMESPACES) {
-            return Err(Status::INVALID_NAMESPACE);
-        }
+        check(entry)?;
         match entry.opcode() {
             opcode::READ => transfer(Kind::Read, entry, memory, blocks).map(Some),
             opcode::WRITE => transfer(Kind::Write, entry, memory, blocks).map(Some),
@@ -106,11 +102,15 @@ impl Step {
                 let extent = extent(entry.first_block(), u64::from(entry.blocks()), blocks)?;
                 Ok(Some(Step::Clear(Clearing {
                     left: vec![extent],
+                    data_to: 0,
                     forced: entry.is_forced(),
                     gives_back: entry.wants_deallocation(),
                 })))
             }
-            opcode::DATASET_MANAGEMENT => manage(entry, memory, blocks),
+            opcode::DATASET_MANAGEMENT => {
+                let clearing = Dataset::of(entry, memory)?.clearing(blocks)?;
+                Ok(clearing.map(Step::Clear))
+            }
             opcode::FLUSH => Ok(Some(Step::Sync)),
             _ => Err(Status::INVALID_OPCODE),
         }
@@ -133,6 +133,22 @@ impl Step {
             Step::Sync => false,
         }
     }
+}
+
+/// Checks what all commands have: that it is on its own, points to data by PRPs, and names the namespace; a Flush may name all of them.
+///
+/// # Errors
+///
+/// The status with which the command is refused.
+pub fn check(entry: &Submission) -> Result<(), Status> {
+    if !entry.is_plain() {
+        return Err(Status::INVALID_FIELD);
+    }
+    let is_flush = entry.opcode() == opcode::FLUSH;
+    if entry.namespace() != NAMESPACE && !(is_flush && entry.namespace() == ALL_NAMESPACES) {
+        return Err(Status::INVALID_NAMESPACE);
+    }
+    Ok(())
 }
 
 /// The bytes of blocks in a row, where the drive has all of them.
@@ -170,37 +186,74 @@ fn transfer<M: SharedMemory + ?Sized>(kind: Kind, entry: &Submission, memory: &M
     }))
 }
 
-/// Dataset Management of up to 256 ranges. What only advises is taken note of by doing nothing.
-fn manage<M: SharedMemory + ?Sized>(entry: &Submission, memory: &M, blocks: u64) -> Result<Option<Step>, Status> {
-    let bytes = entry.ranges() * RANGE_BYTES as u32;
-    let mut list = Vec::with_capacity(bytes as usize);
-    for place in places(entry, memory, bytes)?.all() {
-        let slice = memory
-            .slice(place.host, place.bytes as usize)
-            .ok_or(Status::TRANSFER_ERROR)?;
-        list.extend_from_slice(&copied(&slice));
+/// A Dataset Management: up to 256 ranges, each read once.
+#[derive(Clone, Debug)]
+pub struct Dataset {
+    /// Where its list is.
+    pub places: Places,
+    /// Whether it deallocates what it names. Else it only advises.
+    pub deallocates: bool,
+    /// The first block and the blocks of each range.
+    ranges: Vec<(u64, u32)>,
+}
+
+impl Dataset {
+    /// Reads the list of such an entry.
+    ///
+    /// # Errors
+    ///
+    /// The status with which the command is refused.
+    pub fn of<M: SharedMemory + ?Sized>(entry: &Submission, memory: &M) -> Result<Dataset, Status> {
+        let bytes = entry.ranges() * RANGE_BYTES as u32;
+        let places = places(entry, memory, bytes)?;
+        let mut list = Vec::with_capacity(bytes as usize);
+        for place in places.all() {
+            let slice = memory
+                .slice(place.host, place.bytes as usize)
+                .ok_or(Status::TRANSFER_ERROR)?;
+            list.extend_from_slice(&copied(&slice));
+        }
+        let number = |bytes: &[u8]| bytes.iter().rev().fold(0, |n, byte| n << 8 | u64::from(*byte));
+        let ranges = list.chunks_exact(RANGE_BYTES).map(|range| {
+            let (first, blocks) = (range.get(8..16), range.get(4..8));
+            (
+                number(first.unwrap_or_default()),
+                number(blocks.unwrap_or_default()) as u32,
+            )
+        });
+        Ok(Dataset {
+            ranges: ranges.collect(),
+            places,
+            deallocates: entry.deallocates(),
+        })
     }
-    if !entry.deallocates() {
-        return Ok(None);
+
+    /// The blocks of each range.
+    pub fn lengths(&self) -> impl Iterator<Item = u32> + '_ {
+        self.ranges.iter().map(|(_, blocks)| *blocks)
     }
-    let mut extents = Vec::with_capacity(list.len() / RANGE_BYTES);
-    for range in list.chunks_exact(RANGE_BYTES) {
-        let number = |from: usize, to: usize| {
-            range
-                .get(from..to)
-                .unwrap_or_default()
-                .iter()
-                .rev()
-                .fold(0, |n, byte| n << 8 | u64::from(*byte))
-        };
-        extents.push(extent(number(8, 16), number(4, 8), blocks)?);
+
+    /// What is made zero of a drive with so many blocks, where it deallocates any.
+    ///
+    /// # Errors
+    ///
+    /// The status with which the command is refused.
+    pub fn clearing(&self, blocks: u64) -> Result<Option<Clearing>, Status> {
+        if !self.deallocates {
+            return Ok(None);
+        }
+        let extents = self
+            .ranges
+            .iter()
+            .map(|(first, count)| extent(*first, u64::from(*count), blocks));
+        let left = merged(extents.collect::<Result<Vec<_>, _>>()?);
+        Ok((!left.is_empty()).then_some(Clearing {
+            left,
+            data_to: 0,
+            forced: false,
+            gives_back: true,
+        }))
     }
-    let left = merged(extents);
-    Ok((!left.is_empty()).then_some(Step::Clear(Clearing {
-        left,
-        forced: false,
-        gives_back: true,
-    })))
 }
 
 fn copied(slice: &VolatileSlice<'_>) -> Vec<u8> {

@@ -63,6 +63,8 @@ impl Status {
     pub const INVALID_NAMESPACE: Status = Status(Self::DO_NOT_RETRY | 0x0b);
     /// PRP Offset Invalid.
     pub const PRP_OFFSET_INVALID: Status = Status(Self::DO_NOT_RETRY | 0x13);
+    /// Operation Denied: the command lacks a right.
+    pub const DENIED: Status = Status(Self::DO_NOT_RETRY | 0x15);
     /// LBA Out of Range.
     pub const OUT_OF_RANGE: Status = Status(Self::DO_NOT_RETRY | 0x80);
     /// Capacity Exceeded: the drive's image has no room left where it lies. There may be some later.
@@ -151,6 +153,15 @@ impl Submission {
     /// PRP entry 2.
     pub fn prp2(&self) -> u64 {
         u64::from_le_bytes(self.bytes::<32, 8>())
+    }
+
+    /// Dwords 10 to 15, whose meaning is the command's.
+    pub fn dwords(&self) -> [u32; 6] {
+        let bytes = self.bytes::<40, 24>();
+        let mut dwords = bytes
+            .chunks_exact(4)
+            .map(|dword| dword.iter().rev().fold(0, |n, byte| n << 8 | u32::from(*byte)));
+        std::array::from_fn(|_| dwords.next().unwrap_or_default())
     }
 
     /// Whether the entry names blocks in a row: Read, Write, Compare and Write Zeroes.
@@ -243,6 +254,15 @@ mod tests {
         assert_eq!(entry.prp2(), 0x2726_2524_2322_2120);
         assert_eq!(entry.first_block(), 0x2f2e_2d2c_2b2a_2928);
         assert_eq!((entry.blocks(), entry.ranges()), (0x3131, 0x29));
+        let dwords = [
+            0x2b2a_2928,
+            0x2f2e_2d2c,
+            0x3332_3130,
+            0x3736_3534,
+            0x3b3a_3938,
+            0x3f3e_3d3c,
+        ];
+        assert_eq!(entry.dwords(), dwords);
         assert!(!entry.is_plain() && entry.deallocates() && !entry.is_forced());
         bytes[51] = 0x40;
         bytes[44] = 0xfb;

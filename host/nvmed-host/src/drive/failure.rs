@@ -86,6 +86,11 @@ impl Failure {
         }
     }
 
+    /// Reports that the kernel has failed a command, the first time.
+    pub fn command_failed(&self, error: &io::Error) {
+        self.report(What::Command, error);
+    }
+
     /// Reports an error of a command, the first of its kind.
     fn report(&self, what: What, error: &io::Error) {
         let bit = 1 << what as u32;
@@ -104,6 +109,7 @@ enum What {
     Read,
     Write,
     Room,
+    Command,
 }
 
 impl What {
@@ -112,6 +118,7 @@ impl What {
             What::Read => "read its image",
             What::Write => "write its image",
             What::Room => "write its image, which has no room to grow",
+            What::Command => "be given a command by the kernel",
         }
     }
 }

@@ -3,6 +3,7 @@
 //! The lanes' rings, lists and data lie in the [`Window`](crate::memory::Window). The mediator writes and reads them; the mediator's thread rings the
 //! doorbells here. No call waits for a controller but those that open one: what takes long goes on in threads of the drive's own.
 
+mod buffers;
 mod command;
 pub mod entry;
 mod failure;
@@ -12,10 +13,13 @@ mod lane;
 mod lanes;
 pub mod nvme;
 pub mod opening;
+pub mod passthrough;
 pub mod prp;
 pub mod qtest;
 pub mod ram;
 pub mod reached;
+mod ring;
+mod uring;
 pub mod vfio;
 
 #[cfg(test)]

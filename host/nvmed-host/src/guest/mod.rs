@@ -18,6 +18,7 @@ use std::time::{Duration, Instant};
 use nix::errno::Errno;
 use nix::poll::{poll, PollFd, PollFlags, PollTimeout};
 
+use crate::board::Board;
 use crate::doorbells::{Page, PageError};
 use crate::interrupts::{InterruptError, Signals};
 use crate::machine::Machine;
@@ -109,6 +110,8 @@ pub struct Parts {
     pub pin: bool,
     /// Where its client comes from.
     pub source: Source,
+    /// Where it shows what has become of it.
+    pub board: Arc<Board>,
     /// Where it reports.
     pub reports: Reports,
 }
@@ -169,6 +172,7 @@ pub struct Guest {
     pin: bool,
     source: Option<Source>,
     clients: Clients,
+    board: Arc<Board>,
     reports: Reports,
     lines: Lines,
     /// Its memory was shown whole on this connection.
@@ -192,6 +196,7 @@ impl Guest {
             pin: parts.pin,
             source: Some(parts.source),
             clients: Clients::Nobody,
+            board: parts.board,
             reports: parts.reports,
             lines: Lines::new(parts.number),
             complete: false,
@@ -207,6 +212,9 @@ impl Guest {
         self.reports.send(Report::Begun(self.number, begun));
         if good {
             self.serve_all();
+        }
+        if let Some(shown) = self.board.guests.get(self.number) {
+            shown.end();
         }
         self.reports.send(Report::Over(self.number));
         self.end();
@@ -327,11 +335,19 @@ impl Guest {
             self.take_news(news)?;
             self.function.deliver()?;
             self.function.resampled()?;
+            self.show_interrupts();
             connection.ready(found)?;
             while let Some((request, ticket)) = connection.next_request()? {
                 self.answer(&mut connection, request, ticket)?;
             }
             connection.check(Instant::now())?;
+        }
+    }
+
+    /// Shows how many eventfds of its clients were written.
+    fn show_interrupts(&self) {
+        if let Some(shown) = self.board.guests.get(self.number) {
+            shown.figures.interrupts.set(self.function.interrupts().sent());
         }
     }
 
@@ -391,6 +407,9 @@ impl Guest {
             // its place has the memory that it had: the next client's cannot be put there
             self.lines.warn(error);
             self.clients = Clients::Nobody;
+            if let Some(shown) = self.board.guests.get(self.number) {
+                shown.fail();
+            }
         }
         Ok(())
     }

@@ -11,7 +11,9 @@ use std::time::{Duration, Instant};
 use vm_memory::Bytes;
 
 use super::side::{Rings, Side};
+use crate::board::Board;
 use crate::drive::{Drive, DriveError, LaneRings};
+use crate::figures::Command;
 use crate::memory::Window;
 
 /// Bytes of an entry of a submission ring, and of one of a completion ring (NVMe Base, "Queue Entry Size").
@@ -19,8 +21,8 @@ pub const ENTRY: usize = 64;
 const COMPLETION: usize = 16;
 /// Identifiers of commands in a lane: those of its tags.
 const IDENTIFIERS: usize = 64;
-/// Where the identifier lies in a completion.
-const IDENTIFIER: u64 = 12;
+/// Where the dword lies in a completion that has the identifier and the status.
+const DWORD_3: u64 = 12;
 
 /// A lane, as the drive was told of it last.
 #[derive(Debug)]
@@ -38,6 +40,17 @@ struct Lane {
     since: Instant,
     /// Whose they are: the guest's number and 1, or 0.
     owners: [u8; IDENTIFIERS],
+    /// What they do, and when they were taken.
+    commands: [(Command, Instant); IDENTIFIERS],
+}
+
+/// What came to the drive.
+#[derive(Clone, Copy, Debug, Default, PartialEq, Eq)]
+pub struct Sent {
+    /// Entries.
+    pub commands: u64,
+    /// Bytes that they move.
+    pub bytes: u64,
 }
 
 /// All lanes.
@@ -47,6 +60,7 @@ pub struct Lanes {
     window: Arc<Window>,
     /// Commands that the drive has of each guest.
     counts: Vec<u32>,
+    board: Arc<Board>,
 }
 
 /// From one place of a ring to another.
@@ -69,20 +83,22 @@ impl Lane {
             flying: 0,
             since: now,
             owners: [0; IDENTIFIERS],
+            commands: [(Command::default(), now); IDENTIFIERS],
         }
     }
 }
 
 impl Lanes {
     /// The lanes of a mediator with so many guests.
-    pub fn new(side: &mut dyn Side, lanes: usize, guests: usize, window: Arc<Window>, now: Instant) -> Self {
+    pub fn new(side: &mut dyn Side, lanes: usize, window: Arc<Window>, board: Arc<Board>, now: Instant) -> Self {
         let lanes = (0..lanes)
             .map_while(|lane| side.rings(lane))
             .map(|rings| Lane::new(rings, now));
         Self {
             lanes: lanes.collect(),
             window,
-            counts: vec![0; guests],
+            counts: vec![0; board.guests.len()],
+            board,
         }
     }
 
@@ -104,24 +120,37 @@ impl Lanes {
         self.lanes.iter().map(|lane| lane.at).collect()
     }
 
-    /// Looks for the entries that the work of `guest` has put into the rings, and shows each to `seen`. How many there were.
-    pub fn note_sent(&mut self, side: &mut dyn Side, guest: usize, seen: &mut dyn FnMut(&[u8; ENTRY])) -> u64 {
-        let mut sent = 0;
+    /// Looks for the entries that the work of `guest` has put into the rings by now, and shows each to `seen`. What they are together.
+    pub fn note_sent(
+        &mut self,
+        side: &mut dyn Side,
+        guest: usize,
+        now: Instant,
+        seen: &mut dyn FnMut(&[u8; ENTRY]),
+    ) -> Sent {
+        let mut sent = Sent::default();
         let owner = u8::try_from(guest + 1).unwrap_or(0);
         for (number, lane) in self.lanes.iter_mut().enumerate() {
-            let Some(now) = side.rings(number) else { continue };
+            let Some(rings) = side.rings(number) else {
+                continue;
+            };
             let entries = lane.at.entries;
-            for i in 0..steps(lane.tail, now.tail, entries) {
+            for i in 0..steps(lane.tail, rings.tail, entries) {
                 let at = u64::from((lane.tail + i) % entries) * ENTRY as u64;
                 let mut entry = [0; ENTRY];
                 read(&self.window, lane.at.submission + at, &mut entry);
                 let identifier = usize::from(u16::from_le_bytes([entry[2], entry[3]])) % IDENTIFIERS;
                 give(&mut lane.owners, &mut self.counts, identifier, owner);
+                let command = Command::of(&entry);
+                if let Some(place) = lane.commands.get_mut(identifier) {
+                    *place = (command, now);
+                }
                 lane.flying += 1;
-                sent += 1;
+                sent.commands += 1;
+                sent.bytes += u64::from(command.bytes);
                 seen(&entry);
             }
-            lane.tail = now.tail;
+            lane.tail = rings.tail;
         }
         sent
     }
@@ -135,14 +164,20 @@ impl Lanes {
         let answered = steps(lane.head, rings.head, entries);
         for i in 0..answered {
             let at = u64::from((lane.head + i) % entries) * COMPLETION as u64;
-            let mut identifier = [0; 2];
-            read(&self.window, lane.at.completion + at + IDENTIFIER, &mut identifier);
-            give(
-                &mut lane.owners,
-                &mut self.counts,
-                usize::from(u16::from_le_bytes(identifier)) % IDENTIFIERS,
-                0,
-            );
+            let mut dword = [0; 4];
+            read(&self.window, lane.at.completion + at + DWORD_3, &mut dword);
+            let identifier = usize::from(u16::from_le_bytes([dword[0], dword[1]])) % IDENTIFIERS;
+            // the lowest bit is the phase tag
+            let error = u16::from_le_bytes([dword[2], dword[3]]) >> 1 != 0;
+            let owner = give(&mut lane.owners, &mut self.counts, identifier, 0);
+            let guest = owner.and_then(|guest| self.board.guests.get(guest));
+            if let (Some(shown), Some((command, taken))) = (guest, lane.commands.get(identifier)) {
+                let time = now.saturating_duration_since(*taken);
+                shown.figures.note(*command, error, Some(time));
+            }
+        }
+        if let Some(shown) = self.board.lanes.get(number) {
+            shown.commands.add(answered.into());
         }
         if answered != 0 {
             lane.head = rings.head;
@@ -188,6 +223,16 @@ impl Lanes {
         self.counts.get(guest).is_some_and(|&count| count != 0)
     }
 
+    /// Shows how many commands of each lane and of each guest the drive has.
+    pub fn show(&self) {
+        for (lane, shown) in self.lanes.iter().zip(&self.board.lanes) {
+            shown.show_flying(lane.flying);
+        }
+        for (&count, shown) in self.counts.iter().zip(&self.board.guests) {
+            shown.show_flying(count);
+        }
+    }
+
     /// A lane whose commands the drive has not answered for as long as that, or longer.
     #[must_use]
     pub fn silent(&self, now: Instant, limit: Duration) -> Option<usize> {
@@ -207,6 +252,12 @@ impl Lanes {
     pub fn forget(&mut self) {
         for lane in &mut self.lanes {
             lane.flying = 0;
+            for (owner, (command, _)) in lane.owners.iter().zip(&lane.commands) {
+                let guest = usize::from(*owner).checked_sub(1);
+                if let Some(shown) = guest.and_then(|guest| self.board.guests.get(guest)) {
+                    shown.figures.note(*command, true, None);
+                }
+            }
             forget(&mut lane.owners, &mut self.counts);
         }
     }
@@ -220,16 +271,11 @@ fn read(window: &Window, host: u64, into: &mut [u8]) {
     }
 }
 
-/// The command of that identifier is `owner`'s from now on.
-fn give(owners: &mut [u8; IDENTIFIERS], counts: &mut [u32], identifier: usize, owner: u8) {
-    let Some(place) = owners.get_mut(identifier) else {
-        return;
-    };
-    let before = std::mem::replace(place, owner);
-    if let Some(count) = usize::from(before)
-        .checked_sub(1)
-        .and_then(|guest| counts.get_mut(guest))
-    {
+/// The command of that identifier is `owner`'s from now on. Whose it was before.
+fn give(owners: &mut [u8; IDENTIFIERS], counts: &mut [u32], identifier: usize, owner: u8) -> Option<usize> {
+    let place = owners.get_mut(identifier)?;
+    let before = usize::from(std::mem::replace(place, owner)).checked_sub(1);
+    if let Some(count) = before.and_then(|guest| counts.get_mut(guest)) {
         *count = count.saturating_sub(1);
     }
     if let Some(count) = usize::from(owner)
@@ -238,6 +284,7 @@ fn give(owners: &mut [u8; IDENTIFIERS], counts: &mut [u32], identifier: usize, o
     {
         *count += 1;
     }
+    before
 }
 
 fn forget(owners: &mut [u8; IDENTIFIERS], counts: &mut [u32]) {

@@ -8,7 +8,9 @@
 pub mod client;
 pub mod failing;
 pub mod lanes;
+pub mod limits;
 pub mod mailbox;
+pub mod orders;
 pub mod outbox;
 pub mod pace;
 pub mod side;
@@ -24,12 +26,14 @@ use nix::sys::prctl;
 use nix::sys::time::TimeSpec;
 use nvmed::WorkEnd;
 
+use crate::board::{Board, DriveState, Phase};
 use crate::drive::{Budget, Drive, DriveError};
 use crate::interrupts::Signals;
 use crate::memory::Window;
 use client::Client;
 use failing::{Disk, Failure, Stopped, SILENCE};
-use lanes::Lanes;
+use lanes::{Lanes, Sent};
+use orders::Orders;
 use pace::{Pace, Waiting, TICK};
 use side::{Of, Side};
 use wake::Bell;
@@ -72,6 +76,10 @@ pub struct Parts<S: Side> {
     pub posts: Vec<Post>,
     /// The thread's bell, which the mailboxes ring.
     pub bell: Arc<Bell>,
+    /// What an operator asks for, by that bell.
+    pub orders: Arc<Orders>,
+    /// Where the thread shows what it is at.
+    pub board: Arc<Board>,
     /// For so long after its last event the thread goes on without a pause, where that helps.
     pub spin: Duration,
     /// What each second is counted for, if it is.
@@ -94,7 +102,7 @@ pub enum End {
     DriveFailed,
 }
 
-/// Asks the mediator's thread to end.
+/// Asks a thread to end, such as the mediator's.
 #[derive(Clone, Debug)]
 pub struct Stop {
     asked: Arc<AtomicBool>,
@@ -102,10 +110,25 @@ pub struct Stop {
 }
 
 impl Stop {
+    /// Asks a thread with this bell.
+    #[must_use]
+    pub fn new(bell: Arc<Bell>) -> Self {
+        Self {
+            asked: Arc::new(AtomicBool::new(false)),
+            bell,
+        }
+    }
+
     /// Asks it.
     pub fn ask(&self) {
         self.asked.store(true, Ordering::SeqCst);
         self.bell.ring();
+    }
+
+    /// Whether it was asked.
+    #[must_use]
+    pub fn is_asked(&self) -> bool {
+        self.asked.load(Ordering::SeqCst)
     }
 }
 
@@ -116,13 +139,21 @@ pub struct Mediation<S: Side> {
     disk: Disk,
     clients: Vec<Client>,
     bell: Arc<Bell>,
-    stop: Arc<AtomicBool>,
+    stop: Stop,
+    orders: Arc<Orders>,
+    board: Arc<Board>,
     counts: Option<Box<dyn Counts>>,
     pace: Pace,
+    /// No commands of guests are taken any more.
+    draining: bool,
+    /// What was asked for until now was heeded.
+    heeded: u64,
     /// More is due at once.
     due: bool,
     /// Of a lane more may be due.
     busy: bool,
+    /// Guests were told something since the thread last let others run.
+    told: bool,
     /// The drive is being reset.
     recovering: bool,
     /// When the drive was checked last.
@@ -139,7 +170,8 @@ impl<S: Side> Mediation<S> {
     /// Those of the drive. It is closed then.
     pub fn new(mut parts: Parts<S>) -> Result<Self, DriveError> {
         let now = Instant::now();
-        let lanes = Lanes::new(&mut parts.side, parts.lanes, parts.posts.len(), parts.window, now);
+        let board = Arc::clone(&parts.board);
+        let lanes = Lanes::new(&mut parts.side, parts.lanes, parts.window, board, now);
         if let Err(error) = parts.drive.create_lanes(&lanes.rings()) {
             // the first error is the one that counts
             let _second = parts.drive.close();
@@ -150,13 +182,20 @@ impl<S: Side> Mediation<S> {
             side: parts.side,
             lanes,
             disk: Disk::Good(parts.drive),
-            clients: clients.map(|(number, post)| Client::new(number, post)).collect(),
+            clients: clients
+                .map(|(number, post)| Client::new(number, post, Arc::clone(&parts.board)))
+                .collect(),
+            stop: Stop::new(Arc::clone(&parts.bell)),
             bell: parts.bell,
-            stop: Arc::new(AtomicBool::new(false)),
+            orders: parts.orders,
+            board: parts.board,
             counts: parts.counts,
             pace: Pace::new(parts.spin, now),
+            draining: false,
+            heeded: 0,
             due: false,
             busy: false,
+            told: false,
             recovering: false,
             ticked: now,
             faults: crate::memory::fault::all(),
@@ -166,10 +205,7 @@ impl<S: Side> Mediation<S> {
     /// What asks the thread to end.
     #[must_use]
     pub fn stop(&self) -> Stop {
-        Stop {
-            asked: Arc::clone(&self.stop),
-            bell: Arc::clone(&self.bell),
-        }
+        self.stop.clone()
     }
 
     /// Until the thread is asked to end, or the drive has failed and guests were answered.
@@ -177,7 +213,7 @@ impl<S: Side> Mediation<S> {
         // where that is refused timers are later, and nothing else
         let _late = prctl::set_timerslack(SLACK);
         loop {
-            if self.stop.load(Ordering::SeqCst) {
+            if self.stop.is_asked() {
                 return End::Stopped(match self.disk {
                     Disk::Good(drive) => Some(drive),
                     _ => None,
@@ -194,17 +230,20 @@ impl<S: Side> Mediation<S> {
 
     /// Carries out what guests ask for, and what is due, for some milliseconds at most.
     fn turn(&mut self, now: Instant) {
+        self.heed(now);
+        let recovering = self.recovering;
         let stirred = self.listen();
-        let result = if stirred || self.due || self.recovering || self.lanes.are_flying() {
+        let opened = self.clients.iter().filter_map(Client::opens).any(|until| until <= now);
+        let result = if stirred || opened || self.due || self.recovering || self.lanes.are_flying() {
             self.work(now)
         } else {
-            Ok(false)
+            Ok((false, now))
         };
-        let result = result.and_then(|worked| {
+        let result = result.and_then(|(worked, end)| {
             if stirred || worked {
-                let end = if worked { Instant::now() } else { now };
                 let sent = self.clients.iter_mut().map(Client::take_sent).max();
                 self.pace.note(now, end, sent.unwrap_or(0));
+                self.show();
             }
             self.tick(now)
         });
@@ -214,6 +253,51 @@ impl<S: Side> Mediation<S> {
         self.look_at_failed(now);
         self.note_ends();
         self.note_faults();
+        if recovering != self.recovering {
+            self.show();
+        }
+        self.show_phase();
+    }
+
+    /// Whether the operator asks for something that was not heeded yet.
+    fn is_ordered(&self) -> bool {
+        self.orders.changes() != self.heeded
+    }
+
+    /// What the operator asks for.
+    fn heed(&mut self, now: Instant) {
+        if !self.is_ordered() {
+            return;
+        }
+        self.heeded = self.orders.changes();
+        self.draining = self.orders.is_draining();
+        self.due = true;
+        for client in &mut self.clients {
+            client.set_drain(self.draining);
+            client.set_limit(&mut self.side, self.orders.limit(client.number()), now);
+        }
+    }
+
+    /// Shows what the thread is at.
+    fn show(&self) {
+        self.lanes.show();
+        self.board.drive.show_state(match self.disk {
+            Disk::Good(_) if self.recovering => DriveState::Reset,
+            Disk::Good(_) => DriveState::Good,
+            _ => DriveState::Failed,
+        });
+    }
+
+    /// Shows whether commands are taken. All that were taken have run out where the guests' are with the drive, and the drive has none.
+    fn show_phase(&self) {
+        let phase = if !self.draining {
+            Phase::Running
+        } else if self.busy || self.lanes.are_flying() || !self.clients.iter().all(Client::is_quiet) {
+            Phase::Draining
+        } else {
+            Phase::Drained
+        };
+        self.board.show_phase(phase, self.heeded);
     }
 
     /// What guests ask for. Whether there was something.
@@ -225,23 +309,30 @@ impl<S: Side> Mediation<S> {
         any
     }
 
-    /// Carries out what is due, until nothing is or the slice is over. Whether something was done.
-    fn work(&mut self, begin: Instant) -> Result<bool, Failure> {
+    /// Carries out what is due, until nothing is or the slice is over. Whether something was done, and when the last of it was.
+    fn work(&mut self, begin: Instant) -> Result<(bool, Instant), Failure> {
         let mut any = false;
+        let mut now = begin;
         loop {
-            let done = self.pass(begin)?;
-            any |= done;
+            let done = self.pass(now)?;
             self.due = done;
-            if !done || begin.elapsed() >= SLICE {
-                return Ok(any);
+            if !done {
+                return Ok((any, now));
+            }
+            any = true;
+            now = later(begin);
+            if now.saturating_duration_since(begin) >= SLICE {
+                return Ok((any, now));
             }
         }
     }
 
     /// Each guest gets a piece of work, then the drive, then each lane.
     fn pass(&mut self, now: Instant) -> Result<bool, Failure> {
-        let guests = self.work_guests()?;
+        let guests = self.work_guests(now)?;
         let (drive, more) = self.work_drive(now)?;
+        // what the drive has answered meanwhile was answered by now
+        let now = if self.lanes.are_flying() { later(now) } else { now };
         let lanes = self.work_lanes(now)?;
         if lanes {
             self.ring(now)?;
@@ -252,31 +343,48 @@ impl<S: Side> Mediation<S> {
             }
             client.tell(&mut self.side, guests || lanes);
         }
+        self.told |= guests || lanes;
         Ok(guests || drive || more || lanes)
     }
 
-    fn work_guests(&mut self) -> Result<bool, Failure> {
+    fn work_guests(&mut self, now: Instant) -> Result<bool, Failure> {
         let mut any = false;
         for client in &mut self.clients {
             if !client.is_due() {
                 continue;
             }
             let guest = client.number();
-            let worked = self.side.work(Of::Guest(guest), EVENTS);
-            let mut sent = 0;
-            if worked.done != 0 {
-                any = true;
-                let counts = &mut self.counts;
-                sent = self.lanes.note_sent(&mut self.side, guest, &mut |entry| {
-                    if let Some(counts) = counts {
-                        counts.note(guest, entry);
+            loop {
+                let most = client.events(now, EVENTS);
+                if most == 0 {
+                    if client.has_admin() {
+                        let done = self.side.admin(guest);
+                        any |= done;
+                        client.note_admin(done);
                     }
-                });
-            }
-            // where there was no memory for what is left it is tried again, with the next event or second
-            client.note_worked(sent, worked.done >= EVENTS || worked.end == WorkEnd::OutOfMemory);
-            if worked.end == WorkEnd::Stray {
-                return Err(Failure::Stray(0));
+                    break;
+                }
+                let worked = self.side.work(Of::Guest(guest), most);
+                let mut sent = Sent::default();
+                if worked.done != 0 {
+                    any = true;
+                    let counts = &mut self.counts;
+                    sent = self.lanes.note_sent(&mut self.side, guest, now, &mut |entry| {
+                        if let Some(counts) = counts {
+                            counts.note(guest, entry);
+                        }
+                    });
+                }
+                let cut = worked.done >= most;
+                // where there was no memory for what is left it is tried again, with the next event or second
+                let more = cut || worked.end == WorkEnd::OutOfMemory;
+                any |= client.note_worked(&mut self.side, sent, now, more);
+                if worked.end == WorkEnd::Stray {
+                    return Err(Failure::Stray(0));
+                }
+                if !(cut && client.is_finishing()) {
+                    break;
+                }
             }
         }
         Ok(any)
@@ -328,6 +436,7 @@ impl<S: Side> Mediation<S> {
             return Ok(());
         }
         self.ticked = now;
+        self.show();
         if let Some(counts) = &mut self.counts {
             counts.tick();
         }
@@ -353,6 +462,7 @@ impl<S: Side> Mediation<S> {
         if self.disk.good().is_some() {
             tracing::error!("the drive: {failure}");
             self.disk.stop(now);
+            self.show();
         }
     }
 
@@ -364,6 +474,9 @@ impl<S: Side> Mediation<S> {
             }
             for lane in 0..self.lanes.len() {
                 self.side.close_lane(lane);
+                if let Some(shown) = self.board.lanes.get(lane) {
+                    shown.close();
+                }
             }
             self.lanes.forget();
             for client in &mut self.clients {
@@ -394,11 +507,16 @@ impl<S: Side> Mediation<S> {
     fn rest(&mut self, now: Instant) {
         let pause = self.pause(now);
         if pause.is_zero() {
+            // the guest's thread that tells its client may have no other processor
+            if std::mem::take(&mut self.told) {
+                std::thread::yield_now();
+            }
             std::hint::spin_loop();
             return;
         }
+        self.told = false;
         self.bell.lie_down();
-        if self.clients.iter().any(Client::has_mail) || self.stop.load(Ordering::SeqCst) {
+        if self.clients.iter().any(Client::has_mail) || self.stop.is_asked() || self.is_ordered() {
             self.bell.get_up();
             return;
         }
@@ -437,13 +555,20 @@ impl<S: Side> Mediation<S> {
             polled: self.recovering || self.lanes.are_flying() && !wakes,
             looked: self.clients.iter().any(Client::is_looked_at),
         };
-        let pause = self.pace.longest(waiting, now);
+        let opens = self.clients.iter().filter_map(Client::opens).min();
+        let held = opens.map_or(Duration::MAX, |until| until.saturating_duration_since(now));
+        let pause = self.pace.longest(waiting, now).min(held);
         if stopping {
             pause.min(Duration::from_millis(20))
         } else {
             pause
         }
     }
+}
+
+/// The time now, which is not before that one.
+fn later(than: Instant) -> Instant {
+    Instant::now().max(than)
 }
 
 #[cfg(test)]

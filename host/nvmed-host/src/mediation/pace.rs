@@ -2,7 +2,7 @@
 //!
 //! A store into a doorbell page wakes nobody, so pages are looked at, and each look costs as much as some commands. A guest that waits for each command is looked
 //! at soon. One that has many on their way loses nothing by a later look, which finds more of them, and has fewer interrupts. Which of the two a guest is shows
-//! a late look now and then: it finds one command, or several.
+//! a late look now and then: it finds one command, or several. How many a look may find, so that guests lose nothing, is tried, too.
 
 #![forbid(unsafe_code)]
 
@@ -30,9 +30,13 @@ const SAMPLE: u64 = 64;
 const NAP: Duration = Duration::from_micros(50);
 /// A look may be late by one such part of the time for which nothing has happened.
 const PART: u32 = 4;
-/// Of a guest with many commands on their way a look is to find so many: fewer than a queue has, so that it never runs dry.
-const FEW: u64 = 3;
+/// Of a guest with many commands on their way a look is to find fewer than so many, and half of them or more: fewer than a queue has, so that it never runs dry.
 const MANY: u64 = 6;
+/// The same, of a guest that was found to lose nothing by that.
+const MOST: u64 = 12;
+/// That is tried after so many samples, and after twice as many each time that it has cost guests commands.
+const RAISE: u32 = 4;
+const LATEST_RAISE: u32 = 1024;
 
 /// What there is to wait for.
 #[derive(Clone, Copy, Debug, Default)]
@@ -67,6 +71,10 @@ pub struct Pace {
     shallow: Duration,
     /// So many looks come before a trial.
     trial: u32,
+    /// Late looks are to find fewer than that. So many samples come before they are to find more, and would come the next time.
+    many: u64,
+    raise: u32,
+    raises: u32,
     /// The mean time until something is to be done again.
     gap: Duration,
     /// When something was done last.
@@ -81,17 +89,19 @@ struct Sample {
 }
 
 impl Depth {
-    /// After a look that found so many commands of a guest, at least one. After `trial` more looks there may be a trial.
-    fn after(self, commands: u64, trial: u32) -> Self {
+    /// After a look that found so many commands of a guest, at least one. After `trial` more looks there may be a trial. Late looks are to find less than `many`,
+    /// and are never slower than `slowest`.
+    fn after(self, commands: u64, trial: u32, many: u64, slowest: Duration) -> Self {
+        let slower = |look: Duration| (look * 5 / 4).min(slowest).max(look.min(DEEPEST));
         match (self, commands) {
             (Self::Shallow(0), _) => Self::Trial,
             (Self::Shallow(more), _) => Self::Shallow(more - 1),
             (Self::Trial, ..=1) => Self::Shallow(trial),
             (Self::Trial, _) => Self::Deep(DEEP, 0),
             (Self::Deep(_, SINGLE..), ..=1) => Self::Shallow(trial),
-            (Self::Deep(look, single), ..=1) => Self::Deep((look * 5 / 4).min(DEEPEST), single + 1),
-            (Self::Deep(look, _), MANY..) => Self::Deep((look * 3 / 4).max(FIRST), 0),
-            (Self::Deep(look, _), ..FEW) => Self::Deep((look * 5 / 4).min(DEEPEST), 0),
+            (Self::Deep(look, single), ..=1) => Self::Deep(slower(look), single + 1),
+            (Self::Deep(look, _), found) if found >= many => Self::Deep((look * 3 / 4).max(FIRST), 0),
+            (Self::Deep(look, _), found) if found < many / 2 => Self::Deep(slower(look), 0),
             (Self::Deep(look, _), _) => Self::Deep(look, 0),
         }
     }
@@ -123,6 +133,9 @@ impl Pace {
             },
             shallow: Duration::MAX,
             trial: TRIAL,
+            many: MANY,
+            raise: RAISE,
+            raises: RAISE,
             gap: Duration::ZERO,
             moved: now,
         }
@@ -137,7 +150,11 @@ impl Pace {
             return;
         }
         let before = self.depth;
-        self.depth = before.after(commands, self.trial);
+        let slowest = self
+            .shallow
+            .saturating_mul(u32::try_from(self.many).unwrap_or(u32::MAX))
+            .min(DEEPEST);
+        self.depth = before.after(commands, self.trial, self.many, slowest);
         if gap >= LOOK || before.is_deep() != self.depth.is_deep() {
             // what is compared is what guests get while they are at work
             self.begin_sample(end);
@@ -156,19 +173,36 @@ impl Pace {
         };
     }
 
-    /// Late looks that cost guests an eighth of their commands, or more, end.
+    /// Late looks that cost guests an eighth of their commands, or more, end; before that they are to find no more than few. Those that cost less are to find
+    /// more after a while.
     fn compare(&mut self, now: Instant) {
         let taken = now.saturating_duration_since(self.sample.begin);
         let each = taken / u32::try_from(self.sample.commands).unwrap_or(u32::MAX);
         if !self.depth.is_deep() {
             self.shallow = each;
-        } else if each * 7 / 8 > self.shallow {
+        } else if each * 7 / 8 <= self.shallow {
+            self.trial = TRIAL;
+            self.raise = self.raise.saturating_sub(1);
+            if self.raise == 0 {
+                self.many = MOST;
+            }
+        } else if self.many > MANY {
+            self.look_sooner();
+        } else {
             self.trial = (2 * self.trial).min(LATEST_TRIAL);
             self.depth = Depth::Shallow(self.trial);
-        } else {
-            self.trial = TRIAL;
         }
         self.begin_sample(now);
+    }
+
+    /// Looks that found more commands have cost some: they are to find fewer, and longer than the last time.
+    fn look_sooner(&mut self) {
+        self.many = MANY;
+        self.raises = (2 * self.raises).min(LATEST_RAISE);
+        self.raise = self.raises;
+        if let Depth::Deep(look, single) = self.depth {
+            self.depth = Depth::Deep((look / 2).max(FIRST), single);
+        }
     }
 
     /// The longest pause. Looks at doorbell pages become slower with the time for which nothing has happened: so the first command after a short rest is not
@@ -304,6 +338,35 @@ mod tests {
             assert!(looks < 50);
         }
         assert_eq!(pace.depth, Depth::Shallow(2 * TRIAL));
+    }
+
+    /// A guest that puts a command each 40 microseconds until `depth` are on their way, for so many looks: what the last one found, and the time for a command.
+    fn run(pace: &mut Pace, now: &mut Instant, looks: u32, depth: u64) -> (u64, Duration) {
+        let (begin, mut found, mut all) = (*now, 0, 0);
+        for _ in 0..looks {
+            let pause = pace.longest(LOOKED, *now).max(micros(40));
+            found = u64::try_from(pause.as_micros()).unwrap() / 40;
+            found = found.clamp(1, depth);
+            *now += pause;
+            pace.note(*now, *now, found);
+            all += found;
+        }
+        (found, (*now - begin) / u32::try_from(all).unwrap())
+    }
+
+    /// Looks find more commands of a guest with sixteen, none of which waits for them. One with four has no more, and loses little by what is tried.
+    #[test]
+    fn looks_find_as_many_commands_as_cost_nothing() {
+        let (mut pace, mut now) = after(3 * TRIAL, micros(40), 1);
+        run(&mut pace, &mut now, 200, 16);
+        assert_eq!(pace.many, MOST);
+        let (found, each) = run(&mut pace, &mut now, 200, 16);
+        assert!((MOST / 2..=MOST).contains(&found), "{found}");
+        assert!(each < micros(44), "{each:?}");
+        run(&mut pace, &mut now, 100, 4);
+        assert_eq!(pace.many, MANY);
+        let (_, each) = run(&mut pace, &mut now, 4000, 4);
+        assert!(each < micros(48), "{each:?}");
     }
 
     #[test]

@@ -2,7 +2,7 @@
 
 #![forbid(unsafe_code)]
 
-use nvmed::{HostMemory, Mediator, Scope, Seen, Vectors, WorkEnd};
+use nvmed::{Event, HostMemory, Mediator, Scope, Seen, Vectors, WorkEnd};
 
 use crate::drive::LaneRings;
 use crate::interrupts::VectorSet;
@@ -49,6 +49,9 @@ pub trait Side: Send {
 
     /// Makes events that are due, `most` at most.
     fn work(&mut self, of: Of, most: u64) -> Worked;
+
+    /// Carries out one admin command of a guest, or the deletion of a queue that waits, and takes nothing of its I/O queues. Whether there was one.
+    fn admin(&mut self, guest: usize) -> bool;
 
     /// A lane's rings, or `None` where there is no such lane.
     fn rings(&mut self, lane: usize) -> Option<Rings>;
@@ -114,6 +117,11 @@ impl<M: HostMemory> Side for Library<M> {
             done: worked.done,
             end: worked.end,
         }
+    }
+
+    fn admin(&mut self, guest: usize) -> bool {
+        let guest = number(guest);
+        self.mediator.step(&Event::Admin { guest }).is_ok()
     }
 
     fn rings(&mut self, lane: usize) -> Option<Rings> {

@@ -1,5 +1,7 @@
 //! The loop over a mediator and a drive of the tests' own.
 
+mod operator;
+
 use std::collections::HashMap;
 use std::os::fd::BorrowedFd;
 use std::sync::{Arc, Mutex, MutexGuard};
@@ -7,6 +9,7 @@ use std::thread::{self, JoinHandle};
 
 use vm_memory::Bytes;
 
+use super::limits::Limit;
 use super::mailbox::{mailbox, Access, Sender};
 use super::outbox::Outbox;
 use super::side::{Rings, Worked};
@@ -14,11 +17,13 @@ use super::*;
 use crate::doorbells::Page;
 use crate::drive::nvme::Recover;
 use crate::drive::{LaneRings, Progress};
+use crate::figures::Kind;
 use crate::interrupts::VectorSet;
 use crate::pci::VERSION_1_3;
 
 const CC: u32 = 0x14;
 const CSTS: u32 = 0x1c;
+const TAIL_0: u32 = 0x1000;
 const TAIL_1: u32 = 0x1008;
 const AT: LaneRings = LaneRings {
     submission: 0x1000,
@@ -49,6 +54,8 @@ struct State {
     /// Commands of a guest that were rung and not taken, and those that were taken.
     waiting: HashMap<usize, u32>,
     taken: HashMap<usize, u32>,
+    /// Admin commands of a guest that were rung.
+    admin: HashMap<usize, u32>,
     owners: Vec<usize>,
     tail: u32,
     head: u32,
@@ -57,6 +64,8 @@ struct State {
     manner: Manner,
     closed: bool,
     lanes_closed: bool,
+    /// CSTS.CFS.
+    fatal: bool,
 }
 
 #[derive(Clone)]
@@ -90,6 +99,7 @@ impl Side for Fake {
         let enabled = state.cc.get(&guest).copied().unwrap_or(0) & 1;
         match offset {
             CC => state.cc.get(&guest).copied().unwrap_or(0),
+            CSTS if state.fatal => 2,
             CSTS => enabled | u32::from(state.taken.get(&guest).copied().unwrap_or(0) != 0),
             other => other,
         }
@@ -112,17 +122,20 @@ impl Side for Fake {
         if offset == TAIL_1 {
             *state.waiting.entry(guest).or_default() += 1;
         }
+        if offset == TAIL_0 {
+            *state.admin.entry(guest).or_default() += 1;
+        }
         true
     }
 
     fn work(&mut self, of: Of, most: u64) -> Worked {
-        assert_eq!(most, EVENTS);
+        assert!((1..=EVENTS).contains(&most));
         let mut state = self.state();
         let end = WorkEnd::Done;
         match of {
             Of::Guest(guest) => {
-                let mut done = 0;
-                while !state.lanes_closed && state.waiting.get(&guest).copied().unwrap_or(0) > 0 {
+                let mut done = state.admin.remove(&guest).unwrap_or(0).into();
+                while done < most && !state.lanes_closed && state.waiting.get(&guest).copied().unwrap_or(0) > 0 {
                     *state.waiting.entry(guest).or_default() -= 1;
                     *state.taken.entry(guest).or_default() += 1;
                     let mut entry = [0; 64];
@@ -153,6 +166,14 @@ impl Side for Fake {
                 Worked { done, end }
             }
         }
+    }
+
+    fn admin(&mut self, guest: usize) -> bool {
+        let mut state = self.state();
+        let admin = state.admin.entry(guest).or_default();
+        let was = *admin != 0;
+        *admin -= u32::from(was);
+        was
     }
 
     fn rings(&mut self, lane: usize) -> Option<Rings> {
@@ -263,6 +284,8 @@ impl Recover for Fake {
 /// A mediator's thread with guests.
 struct Rig {
     fake: Fake,
+    orders: Arc<Orders>,
+    board: Arc<Board>,
     guests: Vec<Sender>,
     outboxes: Vec<Arc<Outbox>>,
     signals: Vec<Arc<Signals>>,
@@ -289,6 +312,8 @@ impl Rig {
                 version: VERSION_1_3,
             });
         }
+        let orders = Arc::new(Orders::new(Arc::clone(&bell), &vec![Limit::default(); guests]));
+        let board = Arc::new(Board::new(1, guests).unwrap());
         let mediation = Mediation::new(Parts {
             side: fake.clone(),
             lanes: 1,
@@ -296,12 +321,16 @@ impl Rig {
             drive: Box::new(fake.clone()),
             posts: rig.3,
             bell,
+            orders: Arc::clone(&orders),
+            board: Arc::clone(&board),
             spin: Duration::from_micros(50),
             counts: None,
         })
         .unwrap();
         Self {
             fake,
+            orders,
+            board,
             guests: rig.0,
             outboxes: rig.1,
             signals: rig.2,
@@ -317,6 +346,16 @@ impl Rig {
 
     fn turn(&mut self, now: Instant) {
         self.mediation.as_mut().unwrap().turn(now);
+    }
+
+    /// Commands of a guest that were rung and not taken.
+    fn waiting(&self, guest: usize) -> u32 {
+        self.fake.state().waiting.get(&guest).copied().unwrap_or(0)
+    }
+
+    /// The same of its admin commands.
+    fn admin(&self, guest: usize) -> u32 {
+        self.fake.state().admin.get(&guest).copied().unwrap_or(0)
     }
 
     fn log(&self) -> Vec<String> {
@@ -341,6 +380,10 @@ fn write_cc(value: u32) -> Access {
 
 const RING: Access = Access::Doorbell {
     offset: TAIL_1,
+    value: 1,
+};
+const ADMIN: Access = Access::Doorbell {
+    offset: TAIL_0,
     value: 1,
 };
 
@@ -474,6 +517,13 @@ fn fails(manner: Manner, at_least: Duration) {
     assert!(begin.elapsed() >= at_least, "guests have a second");
     let state = rig.fake.state();
     assert!(state.closed && state.lanes_closed, "{manner:?}");
+    assert!(rig.board.lanes[0].is_closed());
+    let reads = rig.board.guests[0].figures.of(Kind::Read);
+    // one drive fails after its answer
+    let errors = u64::from(manner != Manner::FailsAtCheck);
+    assert_eq!((reads.commands.get(), reads.errors.get()), (1, errors), "{manner:?}");
+    rig.board.drive.open("a drive");
+    assert_eq!(rig.board.drive.state(), DriveState::Failed);
     assert_eq!(
         state.taken.get(&0).copied().unwrap_or(0),
         0,
@@ -541,13 +591,16 @@ fn a_drive_that_is_being_reset_is_not_found_silent() {
 #[test]
 fn a_drive_that_refuses_its_queues_is_closed() {
     let fake = Fake::new(Manner::RefusesLanes);
+    let bell = Arc::new(Bell::new().unwrap());
     let made = Mediation::new(Parts {
         side: fake.clone(),
         lanes: 1,
         window: Arc::clone(&fake.window),
         drive: Box::new(fake.clone()),
         posts: Vec::new(),
-        bell: Arc::new(Bell::new().unwrap()),
+        orders: Arc::new(Orders::new(Arc::clone(&bell), &[])),
+        board: Arc::new(Board::new(1, 0).unwrap()),
+        bell,
         spin: Duration::ZERO,
         counts: None,
     });

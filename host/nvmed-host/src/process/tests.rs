@@ -105,6 +105,30 @@ fn a_socket_for_a_user() {
 }
 
 #[test]
+fn a_socket_for_operators() {
+    let folder = Folder::new("operators");
+    let path = folder.path("s");
+    let listener = Listener::bind_for_operators(&path).unwrap();
+    assert_eq!(fs::symlink_metadata(&path).unwrap().mode() & 0o777, 0o600);
+    let mut client = UnixStream::connect(&path).unwrap();
+    let mut taken = accept(&listener);
+    client.write_all(b"x").unwrap();
+    assert_eq!(taken.read(&mut [0]).unwrap(), 1);
+    drop(listener);
+
+    // as the two users see it who are not this one
+    let own = Uid::effective();
+    let others = [1, 2].map(|more| Uid::from_raw(own.as_raw() + more));
+    let listener = Listener::bind_with(&path, 0o600, Some(others.to_vec())).unwrap();
+    let mut client = UnixStream::connect(&path).unwrap();
+    let e = wait_for(|| listener.accept().map_or_else(Some, |_| None));
+    assert_eq!(e.kind(), io::ErrorKind::PermissionDenied);
+    let words = format!("it is of user {own}, and this program's own user and root may connect");
+    assert_eq!(e.to_string(), words);
+    assert_eq!(client.read(&mut [0]).unwrap(), 0, "the connection is closed");
+}
+
+#[test]
 fn names_and_numbers_of_users() {
     assert_eq!(user_of("root").unwrap(), Uid::from_raw(0));
     assert_eq!(user_of("0").unwrap(), Uid::from_raw(0));

@@ -205,6 +205,18 @@ impl Guest {
         Ok(number)
     }
 
+    /// Deletes an I/O queue pair, whatever it has, and creates it anew.
+    pub fn create_anew(&mut self, number: usize) -> io::Result<()> {
+        let word = number as u32;
+        for opcode in [0, 4] {
+            assert_eq!(self.admin(opcode, 0, [word, 0, 0])?.status, 0, "a deletion");
+        }
+        let later = self.queues.split_off(number);
+        self.create_pair()?;
+        self.queues.extend(later.into_iter().skip(1));
+        Ok(())
+    }
+
     /// Enables the controller, with an admin queue.
     pub fn enable(&mut self) -> io::Result<()> {
         self.await_ready(0)?;

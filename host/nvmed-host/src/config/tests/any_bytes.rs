@@ -19,13 +19,18 @@ impl Random {
 
 /// Lines, most of them good, in any order.
 fn example(random: &mut Random) -> Vec<u8> {
-    const LINES: [&str; 25] = [
+    const LINES: [&str; 30] = [
         "drive ram 1M /a\n",
         "drive file /f\n",
+        "drive nvme /n\n",
         "drive qemu /s /m\n",
         "drive vfio 0000:01:00.0\n",
         "lanes 2\n",
         "spin 7\n",
+        "limit 0 iops 7\n",
+        "limit 1 bytes 1M\n",
+        "control /c\n",
+        "control c\n",
         "extent 0 1000 8\n",
         "extent 0 100 4294967295\n",
         "extent 1 8 0x10\n",

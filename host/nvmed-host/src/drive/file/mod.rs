@@ -13,6 +13,8 @@
 //! | Flush | `fdatasync`; those that come while one is under way share the next |
 //! | Write Zeroes, Dataset Management | `fallocate`, piece by piece, one at a time, of ranges that were merged; where the file system has none, zeros are written |
 //!
+//! A file that has room for all of its bytes when it is opened keeps it: its deallocated blocks are made zero in place.
+//!
 //! A command that comes only so far goes on from there, and one that was interrupted is made again, some times. A device that is gone is answered with
 //! Namespace Not Ready, and ends all writes; so does each error by which something could not be made durable.
 
@@ -33,15 +35,18 @@ use std::time::Duration;
 use vm_memory::VolatileSlice;
 
 use self::opening::Opened;
-use self::ring::{own_slices, Move, Pages, Ring, Work, Zeroing, MOST_ZEROS, SECTOR};
+use self::ring::{FileRing, Move, Work, Zeroing, SECTOR};
+use self::uring::FileUring;
+use super::buffers::{are_the_same, copy_in_order, own_slices, Pages};
 use super::command::{Clearing, Extent, Kind, Step, Transfer};
 use super::entry::{Status, Submission, BLOCK_BYTES};
 use super::failure::Failure;
 use super::lanes::Lanes;
 use super::prp::{SharedMemory, PAGE_BYTES};
+use super::uring::MOST_ZEROS;
 use super::{Budget, Drive, DriveError, LaneRings, Progress};
 
-pub use self::uring::{Lasting, Uring};
+pub use super::uring::Lasting;
 
 /// Bytes that are made zero before others have their turn.
 const PIECE: u64 = 1 << 22;
@@ -104,7 +109,7 @@ struct Clears {
     under_way: Option<(Clear, Zeroing)>,
     /// Those that wait for their turn.
     waiting: VecDeque<Clear>,
-    /// Whether the file system gives room back, and makes bytes zero in place.
+    /// Whether room is given back, which the file system can, and whether it makes bytes zero in place.
     gives_back: bool,
     in_place: bool,
 }
@@ -116,7 +121,7 @@ struct Turn {
     completed: u32,
 }
 
-impl<M: Lasting> FileDrive<M, Uring<M>> {
+impl<M: Lasting> FileDrive<M, FileUring<M>> {
     /// A drive on the file or block device `path`, which has at least `needed` blocks of 512 bytes. It is locked until the drive is closed; its length
     /// stays as it is.
     ///
@@ -125,12 +130,12 @@ impl<M: Lasting> FileDrive<M, Uring<M>> {
     /// In words where it cannot be opened, is used by others, is too short, has no direct I/O of 512 bytes, or where the kernel refuses io_uring.
     pub fn open(memory: Arc<M>, path: &Path, needed: u64) -> Result<Self, DriveError> {
         let opened = Opened::at(path, needed)?;
-        let ring = Uring::new(opened.file, Arc::clone(&memory))?;
+        let ring = FileUring::new(opened.file, Arc::clone(&memory))?;
         Ok(Self::over(memory, ring, opened.about))
     }
 }
 
-impl<M: SharedMemory + 'static, R: Ring> FileDrive<M, R> {
+impl<M: SharedMemory + 'static, R: FileRing> FileDrive<M, R> {
     /// A drive over any ring.
     fn over(memory: Arc<M>, ring: R, about: opening::About) -> Self {
         Self {
@@ -146,7 +151,7 @@ impl<M: SharedMemory + 'static, R: Ring> FileDrive<M, R> {
             clears: Clears {
                 under_way: None,
                 waiting: VecDeque::new(),
-                gives_back: true,
+                gives_back: !about.keeps_room,
                 in_place: true,
             },
             pages: Vec::new(),
@@ -206,7 +211,7 @@ impl<M: SharedMemory + 'static, R: Ring> FileDrive<M, R> {
     fn prepare(&mut self, turn: &mut Turn, lane: usize, command: u16, transfer: Transfer) -> Result<Move, Status> {
         let bytes = u64::from(transfer.places.bytes());
         turn.bytes = turn.bytes.saturating_sub(bytes);
-        let slices = own_slices(&transfer, 0, &*self.memory).ok_or(Status::TRANSFER_ERROR)?;
+        let slices = own_slices(&transfer.places, 0, &*self.memory).ok_or(Status::TRANSFER_ERROR)?;
         let pages = if transfer.kind != Kind::Compare && self.are_aligned(&slices) {
             None
         } else {
@@ -334,7 +339,7 @@ impl<M: SharedMemory + 'static, R: Ring> FileDrive<M, R> {
         }
         let Some(pages) = &moved.pages else { return Status::GOOD };
         turn.bytes = turn.bytes.saturating_sub(u64::from(moved.transfer.places.bytes()));
-        let Some(slices) = own_slices(&moved.transfer, 0, &*self.memory) else {
+        let Some(slices) = own_slices(&moved.transfer.places, 0, &*self.memory) else {
             return Status::TRANSFER_ERROR;
         };
         match moved.transfer.kind {
@@ -469,35 +474,7 @@ fn nothing_moved(moved: &Move) -> io::Error {
     }
 }
 
-/// Calls `copy` with each slice and the pages of the program's own that stand for it.
-fn copy_in_order(slices: &[VolatileSlice<'_>], pages: &Pages, copy: impl Fn(VolatileSlice<'_>, VolatileSlice<'_>)) {
-    let mut from = 0;
-    for slice in slices {
-        if let Some(page) = pages.slice(from, slice.len() as u32) {
-            copy(*slice, page);
-        }
-        from += slice.len() as u32;
-    }
-}
-
-/// Whether the slices have what the pages have.
-fn are_the_same(slices: &[VolatileSlice<'_>], pages: &Pages) -> bool {
-    let (mut own, mut there) = (Vec::new(), Vec::new());
-    let mut from = 0;
-    slices.iter().all(|slice| {
-        let Some(page) = pages.slice(from, slice.len() as u32) else {
-            return false;
-        };
-        own.resize(slice.len(), 0);
-        there.resize(slice.len(), 0);
-        slice.copy_to(&mut own[..]);
-        page.copy_to(&mut there[..]);
-        from += slice.len() as u32;
-        own == there
-    })
-}
-
-impl<M: SharedMemory + 'static, R: Ring> Drive for FileDrive<M, R> {
+impl<M: SharedMemory + 'static, R: FileRing> Drive for FileDrive<M, R> {
     fn create_lanes(&mut self, lanes: &[LaneRings]) -> Result<(), DriveError> {
         self.lanes.create(&*self.memory, lanes)
     }

@@ -1,30 +1,23 @@
 #![forbid(unsafe_code)]
 //! What is looked at before a file or a block device becomes a drive.
 
-use std::fs::{self, File, FileType, OpenOptions};
-use std::io::{self, Seek, SeekFrom};
+use std::fs::{self, File, FileType};
+use std::io::{Seek, SeekFrom};
 use std::os::fd::{AsFd, AsRawFd};
-use std::os::unix::fs::FileTypeExt;
+use std::os::unix::fs::{FileTypeExt, MetadataExt};
 use std::path::Path;
-use std::time::{Duration, Instant};
 
 use nix::fcntl::{fcntl, FcntlArg, Flock, OFlag};
 
 use super::ring::SECTOR;
 use crate::drive::entry::BLOCK_BYTES;
-use crate::drive::image::{lock, open_without_times};
+use crate::drive::image::{open_alone, INSTEAD};
 use crate::drive::prp::PAGE_BYTES;
 use crate::drive::DriveError;
 use crate::memory::status;
 
 /// The bit of `statx` by which a file says what direct I/O needs.
 const STATX_DIOALIGN: u32 = 0x2000;
-/// How long a file that somebody has is waited for. What a program had under way that was killed has it for a moment longer than that program lives.
-const LOCK_WAIT: Duration = Duration::from_secs(2);
-/// Between two tries.
-const LOCK_PAUSE: Duration = Duration::from_millis(20);
-/// What to do without direct I/O.
-const INSTEAD: &str = "'drive ram SIZE FILE' goes without it";
 
 /// What the drive knows of it.
 #[derive(Debug)]
@@ -35,6 +28,8 @@ pub struct About {
     pub blocks: u64,
     /// The alignment of buffers in memory: a power of two up to 4,096.
     pub alignment: u64,
+    /// Whether it is a file that has room for all of its bytes, which it is to keep.
+    pub keeps_room: bool,
 }
 
 /// A file or a block device that can be a drive.
@@ -58,12 +53,9 @@ impl Opened {
             .map_err(|e| refused("cannot be looked at", &e))?
             .file_type();
         let kind = kind_of(before).ok_or_else(|| unusable(path, "is neither a regular file nor a block device"))?;
-        let mut file = open_alone(path, before)?;
-        let now = file
-            .metadata()
-            .map_err(|e| refused("cannot be looked at", &e))?
-            .file_type();
-        if now != before {
+        let mut file = open_alone(path, before).map_err(|what| unusable(path, &what))?;
+        let about = file.metadata().map_err(|e| refused("cannot be looked at", &e))?;
+        if about.file_type() != before {
             return Err(unusable(path, "was replaced while it was opened"));
         }
         // Operations on a descriptor that may not wait would fail where they have to.
@@ -85,6 +77,7 @@ impl Opened {
                 words,
                 blocks,
                 alignment,
+                keeps_room: before.is_file() && about.blocks().saturating_mul(512) >= bytes,
             },
         })
     }
@@ -102,36 +95,6 @@ fn kind_of(kind: FileType) -> Option<&'static str> {
     } else {
         None
     }
-}
-
-/// Opens it for direct I/O, for this program alone. Where somebody has it that is tried for a moment.
-fn open_alone(path: &Path, kind: FileType) -> Result<Flock<File>, DriveError> {
-    let end = Instant::now() + LOCK_WAIT;
-    loop {
-        let error = match open(path, kind).and_then(lock) {
-            Ok(file) => return Ok(file),
-            Err(error) => error,
-        };
-        let what = match error.raw_os_error() {
-            Some(libc::EAGAIN | libc::EBUSY) if Instant::now() < end => {
-                std::thread::sleep(LOCK_PAUSE);
-                continue;
-            }
-            Some(libc::EAGAIN) => "is used already, by this program or another",
-            Some(libc::EBUSY) => "is used already, as a file system that is mounted or by another program",
-            Some(libc::EINVAL) => "has no direct I/O; 'drive ram SIZE FILE' goes without it",
-            _ => "cannot be opened",
-        };
-        return Err(unusable(path, &format!("{what}: {error}")));
-    }
-}
-
-/// Opens it once. A block device that the kernel uses itself, or that somebody has for himself, is refused.
-fn open(path: &Path, kind: FileType) -> io::Result<File> {
-    let alone = if kind.is_block_device() { libc::O_EXCL } else { 0 };
-    let mut options = OpenOptions::new();
-    options.read(true).write(true);
-    open_without_times(&mut options, path, libc::O_DIRECT | alone)
 }
 
 /// The flag `O_NOATIME` where the file was opened with it.

@@ -1,20 +1,17 @@
 #![forbid(unsafe_code)]
-//! What the drive asks of the kernel, and what it is told: io_uring, or what stands for it in tests and fails where it is told to.
+//! What the drive asks of the kernel.
 
 use std::io;
-use std::os::fd::BorrowedFd;
-use std::time::Duration;
 
-use vm_memory::mmap::MmapRegion;
-use vm_memory::{VolatileMemory, VolatileSlice};
+use vm_memory::VolatileSlice;
 
+use crate::drive::buffers::{own_slices, Pages};
 use crate::drive::command::{Kind, Transfer};
 use crate::drive::prp::SharedMemory;
+use crate::drive::ring::Ring;
 
 /// Bytes of a sector, which is a block of the drive.
 pub const SECTOR: u32 = 512;
-/// Bytes of zeros that one operation writes at most.
-pub const MOST_ZEROS: u64 = 65536;
 
 /// A command that moves bytes, on its way.
 #[derive(Debug)]
@@ -44,60 +41,8 @@ impl Move {
                 let (from, end) = (self.transfer.done, self.transfer.places.bytes());
                 Some(vec![pages.slice(from, end.checked_sub(from)?)?])
             }
-            None => own_slices(&self.transfer, self.transfer.done, memory),
+            None => own_slices(&self.transfer.places, self.transfer.done, memory),
         }
-    }
-}
-
-/// The bytes in the command's own memory from the byte `from` of the transfer on.
-pub fn own_slices<'a, M: SharedMemory + ?Sized>(
-    transfer: &Transfer,
-    from: u32,
-    memory: &'a M,
-) -> Option<Vec<VolatileSlice<'a>>> {
-    let mut runs: Vec<(u64, usize)> = Vec::with_capacity(8);
-    for part in transfer.places.part(from, u32::MAX) {
-        match runs.last_mut() {
-            // Both have memory, but perhaps in two pieces that touch.
-            Some((host, bytes))
-                if *host + *bytes as u64 == part.host
-                    && memory.slice(*host, *bytes + part.bytes as usize).is_some() =>
-            {
-                *bytes += part.bytes as usize;
-            }
-            _ => runs.push((part.host, part.bytes as usize)),
-        }
-    }
-    runs.into_iter()
-        .map(|(host, bytes)| memory.slice(host, bytes))
-        .collect()
-}
-
-/// Aligned memory of the program's own: as much as a command moves at most.
-#[derive(Debug)]
-pub struct Pages(MmapRegion);
-
-impl Pages {
-    /// So many bytes.
-    pub const BYTES: u32 = 131_072;
-
-    /// New ones.
-    ///
-    /// # Errors
-    ///
-    /// There is no memory for them.
-    pub fn new() -> io::Result<Pages> {
-        MmapRegion::new(Self::BYTES as usize)
-            .map(Pages)
-            .map_err(io::Error::other)
-    }
-
-    /// `bytes` of them, at least 1, from `from` on.
-    pub fn slice(&self, from: u32, bytes: u32) -> Option<VolatileSlice<'_>> {
-        self.0
-            .get_slice(from as usize, bytes as usize)
-            .ok()
-            .filter(|slice| !slice.is_empty())
     }
 }
 
@@ -108,7 +53,7 @@ pub enum Zeroing {
     GivingBack,
     /// They keep their room (`FALLOC_FL_ZERO_RANGE`).
     InPlace,
-    /// Zeros are written: at most [`MOST_ZEROS`].
+    /// Zeros are written: at most [`MOST_ZEROS`](crate::drive::uring::MOST_ZEROS).
     Writing,
 }
 
@@ -130,34 +75,8 @@ pub enum Work {
     },
 }
 
-/// Carries operations out on a file, several at a time and in any order. No call waits for the file but [`Ring::finish`] and [`Ring::sync`].
-pub trait Ring: Send {
-    /// Whether another operation can be begun.
-    fn has_room(&self) -> bool;
-
-    /// Takes an operation over.
-    ///
-    /// # Errors
-    ///
-    /// It cannot be begun, and comes back: `EFAULT` where a place in memory is gone, `EBUSY` where there is no room.
-    fn begin(&mut self, work: Work) -> Result<(), (Work, io::Error)>;
-
-    /// Hands over to the kernel what was begun. False where the kernel takes the rest later, so that this is to be called again.
-    ///
-    /// # Errors
-    ///
-    /// The kernel takes no operations at all.
-    fn submit(&mut self) -> io::Result<bool>;
-
-    /// An operation that has ended, and what became of it.
-    fn next(&mut self) -> Option<(Work, io::Result<u32>)>;
-
-    /// Becomes readable where operations have ended.
-    fn wake(&self) -> BorrowedFd<'_>;
-
-    /// Waits until nothing is under way, and drops it. False where that takes longer.
-    fn finish(&mut self, most: Duration) -> bool;
-
+/// Carries operations out on a file. No call waits for the file but [`Ring::finish`] and [`FileRing::sync`].
+pub trait FileRing: Ring<Work = Work> {
     /// Makes all that was written durable, and waits for that.
     ///
     /// # Errors

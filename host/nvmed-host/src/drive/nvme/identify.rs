@@ -39,6 +39,10 @@ pub struct ControllerPage {
 pub struct NamespacePage {
     /// Blocks of 512 bytes (NSZE).
     pub blocks: u64,
+    /// Deallocated blocks read as zeros (DLFEAT, bits 2:0).
+    pub deallocated_are_zeros: bool,
+    /// A Write Zeroes may deallocate (DLFEAT, bit 3).
+    pub zeroes_deallocate: bool,
 }
 
 /// "I/O Command Set specific Identify Controller data structure" of the NVM command set: `None` is no limit.
@@ -118,8 +122,9 @@ impl ControllerPage {
 }
 
 impl NamespacePage {
-    /// Checks the page: blocks of 512 bytes, at least `blocks` of them, without metadata and protection information, and not write protected.
-    pub fn of(page: &[u8; PAGE_BYTES], blocks: u64) -> Result<Self, DriveError> {
+    /// Checks the page of the namespace `id`: blocks of 512 bytes, at least `blocks` of them, without metadata and protection information, and not write
+    /// protected.
+    pub fn of(page: &[u8; PAGE_BYTES], id: u32, blocks: u64) -> Result<Self, DriveError> {
         let flbas = get8(page, 26);
         let (format, formats) = (
             usize::from(flbas & 15 | (flbas >> 5 & 3) << 4),
@@ -127,35 +132,40 @@ impl NamespacePage {
         );
         let found = get64(page, 0);
         if found == 0 {
-            return unusable("namespace 1 is not active, or has no blocks".into());
+            return unusable(format!("namespace {id} is not active, or has no blocks"));
         }
         if format > formats || format > 63 {
-            return unusable(format!("namespace 1 has format {format} of {}", formats + 1));
+            return unusable(format!("namespace {id} has format {format} of {}", formats + 1));
         }
         let descriptor = 128 + 4 * format;
         let (size, metadata) = (get8(page, descriptor + 2), get16(page, descriptor));
         if size != 9 {
             return unusable(format!(
-                "namespace 1 has blocks of 2^{size} bytes, not 512: format it with 512 bytes"
+                "namespace {id} has blocks of 2^{size} bytes, not 512: format it with 512 bytes"
             ));
         }
         if metadata != 0 {
             return unusable(format!(
-                "namespace 1 has {metadata} bytes of metadata a block: format it without metadata"
+                "namespace {id} has {metadata} bytes of metadata a block: format it without metadata"
             ));
         }
         if get8(page, 29) & 7 != 0 {
-            return unusable("namespace 1 is formatted with protection information".into());
+            return unusable(format!("namespace {id} is formatted with protection information"));
         }
         if get8(page, 99) & 1 != 0 {
-            return unusable("namespace 1 is write protected".into());
+            return unusable(format!("namespace {id} is write protected"));
         }
         if found < blocks {
             return unusable(format!(
-                "namespace 1 has {found} blocks, and the extents end at block {blocks}"
+                "namespace {id} has {found} blocks, and the extents end at block {blocks}"
             ));
         }
-        Ok(Self { blocks: found })
+        let deallocated = get8(page, 33);
+        Ok(Self {
+            blocks: found,
+            deallocated_are_zeros: deallocated & 7 == 1,
+            zeroes_deallocate: deallocated & 1 << 3 != 0,
+        })
     }
 }
 

@@ -9,7 +9,7 @@
 
 pub mod access;
 mod admin;
-mod bytes;
+pub(super) mod bytes;
 mod command;
 mod controller;
 mod event;

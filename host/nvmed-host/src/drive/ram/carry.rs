@@ -146,9 +146,18 @@ impl<M: SharedMemory + ?Sized> Carrier<'_, M> {
         let Some(extent) = clearing.left.last().copied() else {
             return (Outcome::Done(Status::GOOD), 0);
         };
-        let from = self.store.next_data(extent.from, extent.to);
+        let mut from = extent.from;
+        if clearing.data_to <= from {
+            from = self.store.next_data(extent.from, extent.to);
+            clearing.data_to = if from < extent.to {
+                self.store.next_hole(from, extent.to)
+            } else {
+                from
+            };
+        }
         let to = extent
             .to
+            .min(clearing.data_to)
             .min((from.saturating_add(bytes)) & !(PAGE_BYTES - 1))
             .max(from);
         let zeroed = if from < to {

@@ -31,6 +31,7 @@ use std::collections::VecDeque;
 use std::os::fd::BorrowedFd;
 use std::path::Path;
 use std::sync::Arc;
+use std::time::Duration;
 
 use self::carry::{Carrier, Outcome};
 use self::store::{FileStore, MemoryStore, Store, Wait};
@@ -48,6 +49,9 @@ pub const MOST_BLOCKS_OF_DRIVE: u64 = 1 << 37;
 const SMALL: u64 = 16384;
 /// Bytes of a command that are moved, or made zero, before the next one has its turn.
 const PIECE: u64 = 1 << 17;
+
+/// How long the end of a drive is put off to give room back.
+const LAST: Duration = Duration::from_secs(1);
 
 /// A simulated drive over the memory `M`: the window, or what stands for it in tests.
 pub struct RamDrive<M> {
@@ -250,6 +254,7 @@ impl<M: SharedMemory + 'static> Drive for RamDrive<M> {
 
     fn close(mut self: Box<Self>) -> Result<(), DriveError> {
         self.threads.end();
+        self.store.give_all_back(LAST);
         if self.failure.reason().is_none() {
             if let Err(error) = self.store.sync() {
                 self.failure.keep(format!("{}: {error}", self.store.describe()));

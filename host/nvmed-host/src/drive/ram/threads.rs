@@ -1,16 +1,17 @@
 #![forbid(unsafe_code)]
-//! The threads of a drive whose store may wait for a device: one that syncs, one that makes blocks zero, one that writes, and some that read.
+//! The threads of a drive whose store may wait for a device: one that syncs, one that writes and makes blocks zero, and some that read.
 //!
-//! A thread takes a task, carries it out, and sends its status to the mediator's thread; an eventfd wakes that thread. Tasks of each kind wait in a queue of
-//! their own, so that no Read waits for a Flush. The mediator's thread waits for none of them, for no lock either.
+//! A thread takes a task, carries it out, and sends its status to the mediator's thread; an eventfd wakes that thread. Tasks wait in a queue of each thread's
+//! own, so that no Read waits for a Flush. The mediator's thread waits for none of them, for no lock either.
 
 use std::collections::VecDeque;
 use std::io;
 use std::os::fd::{AsFd, BorrowedFd};
 use std::sync::atomic::{AtomicBool, Ordering};
-use std::sync::mpsc::{channel, Receiver, Sender};
+use std::sync::mpsc::{channel, Receiver, RecvTimeoutError, Sender};
 use std::sync::{Arc, Mutex, PoisonError};
 use std::thread::JoinHandle;
+use std::time::Duration;
 
 use nix::sys::eventfd::{EfdFlags, EventFd};
 
@@ -21,10 +22,17 @@ use crate::drive::entry::Status;
 use crate::drive::failure::Failure;
 use crate::drive::prp::SharedMemory;
 
-/// Threads that read. Writes to a file exclude each other, so that one thread is enough for them, and need not be woken for each.
+/// Threads that read. Writes to a file exclude each other, and the calls that make bytes zero, so that one thread is enough for them, and need not be woken for
+/// each.
 const READERS: usize = 3;
 /// Bytes that are made zero by one call: others' writes to the file wait as long as it takes.
 const PIECE: u64 = 1 << 20;
+/// Writes that wait come before the next such piece, but no more than so many.
+const WRITES: usize = 64;
+/// After so long without a write room is given back that zeros have kept.
+const QUIET: Duration = Duration::from_millis(100);
+/// After each piece of it the thread rests as long as that took, but no shorter than this.
+const REST: Duration = Duration::from_millis(1);
 
 /// A command that was taken, and what is to be done for it.
 #[derive(Debug)]
@@ -100,7 +108,7 @@ impl<M: SharedMemory> Worker<M> {
         }
     }
 
-    fn move_tasks(&self, tasks: &Mutex<Receiver<Task>>) {
+    fn read_tasks(&self, tasks: &Mutex<Receiver<Task>>) {
         loop {
             let task = tasks.lock().unwrap_or_else(PoisonError::into_inner).recv();
             match task {
@@ -113,31 +121,61 @@ impl<M: SharedMemory> Worker<M> {
         }
     }
 
-    /// Makes a piece of each task zero, in turn.
-    fn clear_tasks(&self, tasks: &Receiver<Task>, syncs: &Sender<Task>) {
-        let mut begun = VecDeque::new();
-        while !self.has_ended() {
-            if begun.is_empty() {
-                match tasks.recv() {
-                    Ok(task) => begun.push_back(task),
-                    Err(_) => return,
+    /// Carries out writes, and between them a piece of each task that makes blocks zero, in turn.
+    fn change(&self, tasks: &Receiver<Task>, syncs: &Sender<Task>) {
+        let mut clears = VecDeque::new();
+        loop {
+            let first = if clears.is_empty() {
+                self.next_change(tasks)
+            } else {
+                None
+            };
+            if self.has_ended() || first.is_none() && clears.is_empty() {
+                return;
+            }
+            for mut task in first.into_iter().chain(tasks.try_iter().take(WRITES)) {
+                if matches!(task.step, Step::Clear(_)) {
+                    clears.push_back(task);
+                } else {
+                    let status = self.carry_out(&mut task);
+                    self.finish(&task, status);
                 }
             }
-            begun.extend(tasks.try_iter());
-            let Some(mut task) = begun.pop_front() else { continue };
-            match self.carrier().advance(&mut task.step, PIECE, Wait::Allowed).0 {
-                Outcome::More => begun.push_back(task),
-                Outcome::Done(status) if status.is_good() && task.step.is_forced() => {
-                    // Where nobody receives any more, the drive is being closed.
-                    let _ = syncs.send(Task {
-                        step: Step::Sync,
-                        ..task
-                    });
-                }
-                Outcome::Done(status) => self.finish(&task, status),
-                Outcome::WouldWait => self.finish(&task, Status::WRITE_FAULT),
+            if let Some(task) = clears.pop_front() {
+                clears.extend(self.clear(task, syncs));
             }
         }
+    }
+
+    /// Waits for a task, and gives room back meanwhile. `None` where there are no more.
+    fn next_change(&self, tasks: &Receiver<Task>) -> Option<Task> {
+        let store = &self.shared.store;
+        let mut pause = QUIET;
+        while store.keeps_room() {
+            match tasks.recv_timeout(pause) {
+                Ok(task) => return Some(task),
+                Err(RecvTimeoutError::Disconnected) => return None,
+                Err(RecvTimeoutError::Timeout) => pause = store.give_back().map_or(QUIET, |taken| taken.max(REST)),
+            }
+        }
+        tasks.recv().ok()
+    }
+
+    /// Makes a piece of a task zero. The task where more of it is left.
+    fn clear(&self, mut task: Task, syncs: &Sender<Task>) -> Option<Task> {
+        match self.carrier().advance(&mut task.step, PIECE, Wait::Allowed).0 {
+            Outcome::More => return Some(task),
+            Outcome::Done(status) if status.is_good() && task.step.is_forced() => {
+                // Where nobody receives any more, the drive is being closed.
+                let _ = syncs.send(Task {
+                    step: Step::Sync,
+                    ..task
+                });
+            }
+            Outcome::Done(status) => self.finish(&task, status),
+            Outcome::WouldWait => self.finish(&task, Status::WRITE_FAULT),
+        }
+        None
     }
 
     /// Takes all that waits to be durable: one sync serves all of it.
@@ -201,8 +239,7 @@ pub struct Threads<M> {
 /// Where tasks are given to the threads.
 struct Queues {
     reads: Sender<Task>,
-    writes: Sender<Task>,
-    clears: Sender<Task>,
+    changes: Sender<Task>,
     syncs: Sender<Task>,
 }
 
@@ -234,25 +271,17 @@ impl<M: SharedMemory + 'static> Threads<M> {
         };
         if waits {
             let (reads, for_readers) = channel();
-            let (writes, for_writer) = channel();
-            let (clears, for_clearer) = channel();
+            let (changes, for_changer) = channel();
             let (syncs, for_syncer) = channel();
             let to_syncer = syncs.clone();
             let for_readers = Arc::new(Mutex::new(for_readers));
-            let for_writer = Mutex::new(for_writer);
-            threads.queues = Some(Queues {
-                reads,
-                writes,
-                clears,
-                syncs,
-            });
+            threads.queues = Some(Queues { reads, changes, syncs });
             for _ in 0..READERS {
                 let tasks = Arc::clone(&for_readers);
-                threads.spawn("drive-reads", &sender, move |worker| worker.move_tasks(&tasks))?;
+                threads.spawn("drive-reads", &sender, move |worker| worker.read_tasks(&tasks))?;
             }
-            threads.spawn("drive-writes", &sender, move |worker| worker.move_tasks(&for_writer))?;
-            threads.spawn("drive-clears", &sender, move |worker| {
-                worker.clear_tasks(&for_clearer, &to_syncer)
+            threads.spawn("drive-writes", &sender, move |worker| {
+                worker.change(&for_changer, &to_syncer)
             })?;
             threads.spawn("drive-syncs", &sender, move |worker| worker.sync_tasks(&for_syncer))?;
         }
@@ -284,8 +313,8 @@ impl<M> Threads<M> {
     pub fn give(&mut self, task: Task) -> bool {
         let Some(queues) = &self.queues else { return false };
         let queue = match &task.step {
-            Step::Clear(_) => &queues.clears,
-            Step::Transfer(transfer) if !transfer.forced && transfer.changes() => &queues.writes,
+            Step::Clear(_) => &queues.changes,
+            Step::Transfer(transfer) if !transfer.forced && transfer.changes() => &queues.changes,
             Step::Transfer(transfer) if !transfer.forced => &queues.reads,
             Step::Transfer(_) | Step::Sync => &queues.syncs,
         };

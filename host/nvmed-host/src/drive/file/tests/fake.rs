@@ -225,6 +225,8 @@ fn asked(work: &Work) -> Asked {
 }
 
 impl Ring for FakeRing {
+    type Work = Work;
+
     fn has_room(&self) -> bool {
         self.control
             .change(|state| state.ended.len() + state.held.len() < state.room)
@@ -285,7 +287,9 @@ impl Ring for FakeRing {
             state.held.is_empty()
         })
     }
+}
 
+impl FileRing for FakeRing {
     fn sync(&self) -> io::Result<()> {
         self.control.change(|state| {
             let fault = state.faults.iter().position(|(call, _)| *call == Call::Sync);

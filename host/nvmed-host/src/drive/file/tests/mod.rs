@@ -6,6 +6,7 @@ mod order;
 mod real;
 
 use super::*;
+use crate::drive::ring::Ring;
 use crate::drive::testing::*;
 
 use self::fake::{Asked, Call, Control, FakeRing, Fault};
@@ -30,6 +31,7 @@ pub fn fake_aligned(alignment: u64) -> (FakeRig, Control) {
         words: "a ring for tests".to_owned(),
         blocks: BLOCKS,
         alignment,
+        keeps_room: false,
     };
     let drive = FileDrive::over(Arc::clone(&memory), ring, about);
     (Rig::new(memory, drive), control)

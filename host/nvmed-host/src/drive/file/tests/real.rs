@@ -1,12 +1,12 @@
 //! Drives on files of this machine, by its own io_uring.
 
 use std::fs;
-use std::os::unix::fs::FileExt;
+use std::os::unix::fs::{FileExt, MetadataExt};
 use std::path::PathBuf;
 
 use super::*;
 
-type RealRig = Rig<FileDrive<Memory, Uring<Memory>>>;
+type RealRig = Rig<FileDrive<Memory, FileUring<Memory>>>;
 
 /// A file of so many blocks in a folder.
 fn image(folder: &Folder, blocks: u64) -> PathBuf {
@@ -46,6 +46,43 @@ fn random_commands_do_what_a_plain_model_does() {
     for alignment in [4, 512, 4096] {
         let (rig, _) = fake_aligned(alignment);
         does_what_a_plain_model_does(rig, &mut Random::new(alignment), 1500, 3);
+    }
+}
+
+/// A file that was allocated keeps its room, and another one gives it back. Either way deallocated blocks are zeros.
+#[test]
+fn a_file_that_has_all_its_room_keeps_it() {
+    for is_allocated in [true, false] {
+        let folder = Folder::new();
+        let path = image(&folder, BLOCKS);
+        if is_allocated {
+            let file = fs::File::options().write(true).open(&path).expect("the image");
+            let length = (BLOCKS * BLOCK_BYTES) as i64;
+            nix::fcntl::fallocate(
+                std::os::fd::AsRawFd::as_raw_fd(&file),
+                nix::fcntl::FallocateFlags::empty(),
+                0,
+                length,
+            )
+            .expect("room");
+        }
+        let Some(mut rig) = try_open(&path) else { return };
+        rig.memory.fill(DATA, 4096, 7);
+        for block in (0..BLOCKS).step_by(8) {
+            assert_eq!(rig.run(entry(WRITE, DATA, 0, block, 7)), 0);
+        }
+        put_range(&rig, 0, 0, BLOCKS as u32 - 8);
+        assert_eq!(rig.run(entry(9, HIGH, 0, 4 << 32, 0)), 0);
+        assert_eq!(rig.run(entry(FLUSH, 0, 0, 0, 0)), 0);
+        let allocated = fs::metadata(&path).expect("the image").blocks() * 512;
+        if is_allocated {
+            assert!(allocated >= BLOCKS * BLOCK_BYTES);
+        } else {
+            assert!(allocated <= 65536);
+        }
+        rig.close().expect("a clean end");
+        let expected = [vec![0; (BLOCKS as usize - 8) * 512], vec![7; 4096]].concat();
+        assert!(fs::read(&path).expect("the image") == expected);
     }
 }
 

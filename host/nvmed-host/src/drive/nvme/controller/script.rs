@@ -272,7 +272,7 @@ impl<A: Access> Controller<A> {
                 }
                 self.found.controller = found;
             }
-            Command::IdentifyNamespace => self.found.namespace = NamespacePage::of(&page, self.needs.blocks)?,
+            Command::IdentifyNamespace => self.found.namespace = NamespacePage::of(&page, 1, self.needs.blocks)?,
             Command::IdentifyLimits => self.found.limits = Limits::of(&page),
             Command::QueueCount { pairs } => enough_queues(answer.result, pairs)?,
             Command::Log { page: HEALTH_LOG } => tracing::warn!(

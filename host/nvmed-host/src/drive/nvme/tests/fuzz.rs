@@ -43,7 +43,7 @@ fn identify_pages() {
             assert!((1..=256).contains(&page.event_requests));
             assert!(page.serial.len() <= 20 && page.model.len() <= 40 && page.firmware.len() <= 8);
         }
-        if let Ok(page) = NamespacePage::of(&n, 4096) {
+        if let Ok(page) = NamespacePage::of(&n, 1, 4096) {
             taken += 1;
             assert!(page.blocks >= 4096);
         }

@@ -6,7 +6,8 @@ use std::io;
 use std::os::fd::{AsFd, AsRawFd, RawFd};
 use std::os::unix::fs::{MetadataExt, OpenOptionsExt as _};
 use std::path::{Path, PathBuf};
-use std::sync::atomic::{AtomicBool, Ordering};
+use std::sync::atomic::{AtomicBool, AtomicU64, Ordering};
+use std::time::{Duration, Instant};
 
 use nix::fcntl::{fallocate, FallocateFlags, Flock};
 use nix::sys::statfs::{fstatfs, TMPFS_MAGIC};
@@ -16,12 +17,20 @@ use vm_memory::VolatileSlice;
 
 use super::calls::{self, Way};
 use super::dirty::{Dirty, CHUNK};
+use super::room::{Hole, Room};
 use super::{Store, Wait};
+use crate::drive::command::Extent;
 use crate::drive::image::{lock, open_without_times};
 use crate::drive::DriveError;
 
 /// Chunks that a sync may hand to the device at once.
 const FEW_CHUNKS: usize = 2;
+/// Room is given back in pieces that are to take so long at most: a write that comes meanwhile waits for one.
+const HOLE_TIME: Duration = Duration::from_millis(1);
+/// Bytes of such a piece.
+const FIRST_HOLE: u64 = 1 << 16;
+const LARGEST_HOLE: u64 = 1 << 24;
+const SMALLEST_HOLE: u64 = 1 << 12;
 /// Zeros, for file systems without holes.
 static ZEROS: [u8; 65536] = [0; 65536];
 
@@ -40,6 +49,9 @@ pub struct FileStore {
     /// Whether it can punch holes, and make bytes zero that keep their room.
     has_holes: AtomicBool,
     has_zeros: AtomicBool,
+    /// What is to be given back, and in pieces of how many bytes.
+    room: Room,
+    hole: AtomicU64,
 }
 
 impl FileStore {
@@ -103,6 +115,8 @@ impl FileStore {
             has_holes: AtomicBool::new(true),
             // Not on tmpfs, where even a look for holes takes long.
             has_zeros: AtomicBool::new(!in_memory),
+            room: Room::default(),
+            hole: AtomicU64::new(FIRST_HOLE),
         })
     }
 
@@ -155,12 +169,59 @@ impl FileStore {
         Ok(false)
     }
 
-    /// The first byte from `offset` on that has no room; `offset` where that cannot be known.
-    fn next_hole(&self, offset: u64) -> u64 {
-        let at = i64::try_from(offset)
-            .ok()
-            .and_then(|from| lseek(self.fd(), from, Whence::SeekHole).ok());
-        at.and_then(|at| u64::try_from(at).ok()).unwrap_or(offset)
+    /// Makes bytes zero that keep their room, which is noted where it is to be given back. False where the file system can't, or has no room for that.
+    fn zero_in_place(&self, range: Extent, gives_back: bool) -> io::Result<bool> {
+        let is_noted = gives_back && self.has_holes.load(Ordering::Relaxed);
+        if is_noted {
+            self.room.add(range);
+        }
+        let way = FallocateFlags::FALLOC_FL_ZERO_RANGE;
+        let zeroed = match self.allocate(&self.has_zeros, way, range.from, range.to - range.from) {
+            Err(error) if is_full(&error) => Ok(false),
+            zeroed => zeroed,
+        };
+        if is_noted && !matches!(zeroed, Ok(true)) {
+            self.room.forget(range);
+        }
+        zeroed
+    }
+
+    /// Gives room back. Where that fails it is kept: the bytes are zero.
+    fn punch(&self, hole: &Hole<'_>) {
+        let Extent { from, to } = hole.range;
+        let way = FallocateFlags::FALLOC_FL_PUNCH_HOLE;
+        let _kept = self.allocate(&self.has_holes, way, from, to - from);
+    }
+
+    /// Calls `write`, which writes these bytes. Where there is no room for them what zeros have kept is given back, as far as it takes.
+    fn write_with_room(&self, range: Extent, mut write: impl FnMut() -> io::Result<()>) -> io::Result<()> {
+        loop {
+            let writing = self.room.begin_write(range, Wait::Allowed);
+            let written = write();
+            drop(writing);
+            match written {
+                Err(error) if is_full(&error) => match self.room.begin_hole(LARGEST_HOLE, Wait::Allowed) {
+                    Some(hole) => self.punch(&hole),
+                    None => return Err(error),
+                },
+                written => return written,
+            }
+        }
+    }
+
+    /// Writes without waiting, or says that it would wait.
+    fn write_at_once(&self, offset: u64, places: &[VolatileSlice<'_>]) -> io::Result<()> {
+        if !self.waits {
+            return self.move_at_once(Way::Write, offset, places);
+        }
+        let Some(_writing) = self.room.begin_write(range_of(offset, places), Wait::Never) else {
+            return Err(io::ErrorKind::WouldBlock.into());
+        };
+        match self.move_at_once(Way::Write, offset, places) {
+            // The call that may wait can make room.
+            Err(error) if is_full(&error) => Err(io::ErrorKind::WouldBlock.into()),
+            written => written,
+        }
     }
 
     /// Writes chunks back, one after another. A sync that finds much to write hands all of it to the device at once, and whatever others need of that
@@ -198,6 +259,19 @@ impl FileStore {
         }
         Ok(())
     }
+}
+
+/// The bytes of the file that stand for all bytes of `places`.
+fn range_of(offset: u64, places: &[VolatileSlice<'_>]) -> Extent {
+    Extent {
+        from: offset,
+        to: offset + places.iter().map(|place| place.len() as u64).sum::<u64>(),
+    }
+}
+
+/// Whether the file system has no room left, for anybody or for this user.
+fn is_full(error: &io::Error) -> bool {
+    matches!(error.raw_os_error(), Some(libc::ENOSPC | libc::EDQUOT))
 }
 
 /// Opens the image, or creates it, and says whether it is new.
@@ -264,23 +338,20 @@ impl Store for FileStore {
     }
 
     fn write(&self, offset: u64, places: &[VolatileSlice<'_>], wait: Wait) -> io::Result<()> {
+        let range = range_of(offset, places);
         let written = match wait {
-            Wait::Allowed => self.move_all(Way::Write, offset, places, 0),
-            Wait::Never => self.move_at_once(Way::Write, offset, places),
+            Wait::Allowed => self.write_with_room(range, || self.move_all(Way::Write, offset, places, 0)),
+            Wait::Never => self.write_at_once(offset, places),
         };
-        self.dirty
-            .mark(offset, places.iter().map(|place| place.len() as u64).sum());
+        self.dirty.mark(range.from, range.to - range.from);
         written
     }
 
     fn zero(&self, offset: u64, bytes: u64, gives_back: bool) -> io::Result<()> {
-        // Bytes that all have room are made zero in place where that will do: it is quicker, and writes go on meanwhile.
-        let may_keep = !gives_back && self.has_zeros.load(Ordering::Relaxed);
-        if may_keep && self.next_hole(offset) >= offset + bytes {
-            let way = FallocateFlags::FALLOC_FL_ZERO_RANGE;
-            if self.allocate(&self.has_zeros, way, offset, bytes)? {
-                return Ok(());
-            }
+        let to = offset.checked_add(bytes).ok_or(io::ErrorKind::InvalidInput)?;
+        // It is quicker than a hole, and writes go on meanwhile.
+        if self.has_zeros.load(Ordering::Relaxed) && self.zero_in_place(Extent { from: offset, to }, gives_back)? {
+            return Ok(());
         }
         if self.allocate(&self.has_holes, FallocateFlags::FALLOC_FL_PUNCH_HOLE, offset, bytes)? {
             return Ok(());
@@ -294,6 +365,40 @@ impl Store for FileStore {
             Ok(at) => u64::try_from(at).unwrap_or(offset).clamp(offset, end),
             Err(nix::Error::ENXIO) => end,
             Err(_) => offset,
+        }
+    }
+
+    fn next_hole(&self, offset: u64, end: u64) -> u64 {
+        let Ok(from) = i64::try_from(offset) else { return end };
+        let at = lseek(self.fd(), from, Whence::SeekHole).ok();
+        at.and_then(|at| u64::try_from(at).ok())
+            .filter(|at| *at > offset)
+            .map_or(end, |at| at.min(end))
+    }
+
+    fn keeps_room(&self) -> bool {
+        !self.room.is_empty()
+    }
+
+    fn give_back(&self) -> Option<Duration> {
+        let most = self.hole.load(Ordering::Relaxed);
+        let hole = self.room.begin_hole(most, Wait::Never)?;
+        let begin = Instant::now();
+        self.punch(&hole);
+        let taken = begin.elapsed();
+        let most = if taken > HOLE_TIME { most / 2 } else { 2 * most };
+        self.hole
+            .store(most.clamp(SMALLEST_HOLE, LARGEST_HOLE), Ordering::Relaxed);
+        Some(taken)
+    }
+
+    fn give_all_back(&self, most: Duration) {
+        let begin = Instant::now();
+        while begin.elapsed() < most {
+            let Some(hole) = self.room.begin_hole(LARGEST_HOLE, Wait::Allowed) else {
+                return;
+            };
+            self.punch(&hole);
         }
     }
 
@@ -311,6 +416,7 @@ impl Store for FileStore {
     }
 
     fn write_durably(&self, offset: u64, places: &[VolatileSlice<'_>]) -> io::Result<()> {
+        let _writing = self.room.begin_write(range_of(offset, places), Wait::Allowed);
         self.move_all(Way::Write, offset, places, libc::RWF_DSYNC)
     }
 

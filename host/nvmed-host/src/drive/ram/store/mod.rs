@@ -5,11 +5,13 @@ mod calls;
 mod dirty;
 mod file;
 mod memory;
+mod room;
 
 #[cfg(test)]
 pub(super) mod faulty;
 
 use std::io;
+use std::time::Duration;
 
 use vm_memory::VolatileSlice;
 
@@ -48,7 +50,7 @@ pub trait Store: Send + Sync {
     /// As [`Store::read`]. Bytes may have been written in part then.
     fn write(&self, offset: u64, places: &[VolatileSlice<'_>], wait: Wait) -> io::Result<()>;
 
-    /// Makes the bytes zero, and gives their room back where it can. Without `gives_back` it may keep the room where that is quicker. It may wait.
+    /// Makes the bytes zero. Without `gives_back` they may keep their room; with it their room is given back where that can be, now or later. It may wait.
     ///
     /// # Errors
     ///
@@ -57,6 +59,24 @@ pub trait Store: Send + Sync {
 
     /// The first byte from `offset` on, below `end`, that may be other than zero; `end` where there is none.
     fn next_data(&self, offset: u64, end: u64) -> u64;
+
+    /// The first byte after `offset`, below `end`, that is known to be zero, where `offset` is of [`Store::next_data`]; `end` where none is.
+    fn next_hole(&self, _offset: u64, end: u64) -> u64 {
+        end
+    }
+
+    /// Whether zeros have kept room that is to be given back.
+    fn keeps_room(&self) -> bool {
+        false
+    }
+
+    /// Gives back a piece of it, and says how long that took; writes wait meanwhile. `None` where somebody has written since the last call, or nothing is left.
+    fn give_back(&self) -> Option<Duration> {
+        None
+    }
+
+    /// Gives back what zeros have kept, for so long at most. Nobody writes any more.
+    fn give_all_back(&self, _most: Duration) {}
 
     /// Makes all that was written and made zero before this call durable. It is called by one thread at a time.
     ///

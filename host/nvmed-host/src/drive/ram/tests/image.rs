@@ -90,10 +90,15 @@ fn nothing_is_allocated_before_it_is_written() {
     }
     rig.memory.put32(HIGH + 36, 2);
     assert_eq!(rig.run(entry(9, HIGH, 0, 4 << 32 | 2, 0)), 0);
-    assert_eq!(rig.run(entry(0, 0, 0, 0, 0)), 0);
-    assert!(allocated() < written);
     assert_eq!(rig.run(entry(2, DATA, 0, (1 << 33) - 8, 7)), 0);
     assert_eq!(rig.memory.get(DATA, 4096), [0; 4096]);
+    // Their room is given back once nobody writes.
+    let begin = Instant::now();
+    while allocated() >= written {
+        assert!(begin.elapsed() < Duration::from_secs(20), "the room is kept");
+        std::thread::sleep(Duration::from_millis(20));
+        assert_eq!(rig.run(entry(0, 0, 0, 0, 0)), 0);
+    }
     rig.close().expect("a clean end");
 }
 
@@ -123,6 +128,31 @@ fn what_is_no_image_is_refused() {
     nix::unistd::mkfifo(&pipe, nix::sys::stat::Mode::S_IRWXU).expect("a pipe");
     assert!(refused(pipe).contains("is no regular file"));
     assert!(refused(PathBuf::from("")).contains("cannot be opened or created"));
+}
+
+/// The end of a drive gives back what it has not given back before.
+#[test]
+fn room_is_given_back_at_the_end() {
+    let folder = Folder::new();
+    let image = folder.file("image");
+    let mut rig = open(&image).expect("a drive");
+    rig.memory.fill(DATA, 4096, 7);
+    for block in (0..BLOCKS).step_by(8) {
+        assert_eq!(rig.run(entry(1, DATA, 0, block, 7)), 0);
+    }
+    assert_eq!(rig.run(entry(0, 0, 0, 0, 0)), 0);
+    let allocated = || fs::metadata(&image).expect("the image").blocks() * 512;
+    assert!(allocated() >= BLOCKS * 512);
+    rig.memory.put32(HIGH + 4, BLOCKS as u32 - 8);
+    rig.memory.put64(HIGH + 8, 0);
+    assert_eq!(rig.run(entry(9, HIGH, 0, 4 << 32, 0)), 0);
+    rig.close().expect("a clean end");
+    assert!(allocated() <= 65536);
+    let mut bytes = vec![0xa5; 8192];
+    File::open(&image)
+        .and_then(|file| file.read_exact_at(&mut bytes, (BLOCKS - 16) * 512))
+        .expect("the image");
+    assert_eq!(bytes, [[0; 4096], [7; 4096]].concat());
 }
 
 /// What was created for a drive that cannot be is removed again; what was there stays.

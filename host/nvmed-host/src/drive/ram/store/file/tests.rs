@@ -3,6 +3,7 @@
 use std::os::unix::fs::FileExt;
 
 use super::*;
+use crate::drive::testing::{Folder, Random};
 
 const BYTES: u64 = 400_000;
 
@@ -90,7 +91,144 @@ fn offsets_that_are_none() {
     let store = store(BYTES);
     assert!(store.zero(u64::MAX, 512, true).is_err() && store.zero(0, u64::MAX, true).is_err());
     assert_eq!(store.next_data(u64::MAX - 1, u64::MAX), u64::MAX - 1);
-    assert_eq!(store.next_hole(u64::MAX), u64::MAX);
+    assert_eq!(store.next_hole(u64::MAX - 1, u64::MAX), u64::MAX);
+}
+
+fn write(store: &FileStore, offset: u64, byte: u8, bytes: u64, wait: Wait) -> io::Result<()> {
+    let mut bytes = vec![byte; bytes as usize];
+    store.write(offset, &[VolatileSlice::from(&mut bytes[..])], wait)
+}
+
+/// A file system with zeros in place keeps the room until nobody writes; another gives it back at once. Either way all is zero from the first moment on.
+#[test]
+fn room_is_given_back_when_nobody_writes() {
+    const SIZE: u64 = 4 << 20;
+    let folder = Folder::new();
+    let store = FileStore::open(&folder.file("image"), SIZE).expect("a store");
+    let allocated = || store.file.metadata().expect("the image").blocks() * 512;
+    write(&store, 0, 0x5a, SIZE, Wait::Allowed).expect("written");
+    store.sync().expect("a sync");
+    assert!(allocated() >= SIZE);
+    store.zero(512, SIZE - 1024, true).expect("zeros");
+    let mut seen = vec![0; SIZE as usize];
+    store.file.read_exact_at(&mut seen, 0).expect("its bytes");
+    let is_right = |(at, byte): (usize, &u8)| {
+        *byte
+            == if (512..SIZE as usize - 512).contains(&at) {
+                0
+            } else {
+                0x5a
+            }
+    };
+    assert!(seen.iter().enumerate().all(is_right));
+    if store.keeps_room() {
+        assert!(allocated() >= SIZE);
+        write(&store, 1 << 20, 0x5a, 4096, Wait::Allowed).expect("written");
+        assert!(store.give_back().is_none(), "somebody has written");
+        assert!(store.give_back().is_some());
+        write(&store, 3 << 20, 0x5a, 4096, Wait::Allowed).expect("written");
+        assert!(store.give_back().is_none());
+        while store.give_back().is_some() {}
+    }
+    assert!(!store.keeps_room());
+    store.sync().expect("a sync");
+    assert!(allocated() <= 65536);
+}
+
+/// Three threads change blocks of their own and look at them, while a fourth one punches holes.
+#[test]
+fn no_hole_takes_what_was_written() {
+    const OWN: u64 = 1 << 20;
+    let folder = Folder::new();
+    let store = FileStore::open(&folder.file("image"), 3 * OWN).expect("a store");
+    let is_over = AtomicBool::new(false);
+    let work = |thread: u64| {
+        let mut random = Random::new(thread + 1);
+        let mut expected = vec![0; OWN as usize];
+        for round in 0..1500u32 {
+            let from = random.below(OWN / 512) * 512;
+            let bytes = 512 * (1 + random.below(64)).min((OWN - from) / 512);
+            let place = from as usize..(from + bytes) as usize;
+            if random.below(2) == 0 {
+                store.zero(thread * OWN + from, bytes, true).expect("zeros");
+                expected[place].fill(0);
+                continue;
+            }
+            let byte = 1 + (round % 255) as u8;
+            let wait = if random.below(2) == 0 {
+                Wait::Never
+            } else {
+                Wait::Allowed
+            };
+            match write(&store, thread * OWN + from, byte, bytes, wait) {
+                Err(error) if error.kind() == io::ErrorKind::WouldBlock => {
+                    write(&store, thread * OWN + from, byte, bytes, Wait::Allowed).expect("written");
+                }
+                written => written.expect("written"),
+            }
+            expected[place].fill(byte);
+            if random.below(4) == 0 {
+                let mut seen = vec![0; OWN as usize];
+                store.file.read_exact_at(&mut seen, thread * OWN).expect("its bytes");
+                assert!(seen == expected, "thread {thread}, round {round}");
+            }
+        }
+    };
+    std::thread::scope(|scope| {
+        let puncher = scope.spawn(|| {
+            while !is_over.load(Ordering::SeqCst) {
+                let _taken = store.give_back();
+                store.give_all_back(Duration::from_micros(50));
+            }
+        });
+        let workers: Vec<_> = (0..3).map(|thread| scope.spawn(move || work(thread))).collect();
+        let results: Vec<_> = workers.into_iter().map(std::thread::ScopedJoinHandle::join).collect();
+        is_over.store(true, Ordering::SeqCst);
+        puncher.join().expect("the puncher");
+        assert!(results.iter().all(Result::is_ok));
+    });
+}
+
+/// A write that finds no room gets what zeros have kept, as much as it takes, and fails where that was not enough.
+#[test]
+fn a_full_file_system_takes_what_zeros_have_kept() {
+    let store = store(BYTES);
+    let range = Extent { from: 0, to: 4096 };
+    for error in [libc::ENOSPC, libc::EDQUOT] {
+        let write = |enough: usize| {
+            let mut tries = 0;
+            let written = store.write_with_room(range, || {
+                tries += 1;
+                if tries > enough {
+                    Ok(())
+                } else {
+                    Err(io::Error::from_raw_os_error(error))
+                }
+            });
+            (written.map_err(|error| error.raw_os_error()), tries)
+        };
+        let note = || {
+            for at in [1, 3, 5] {
+                store.room.add(Extent {
+                    from: at << 16,
+                    to: (at << 16) + 4096,
+                });
+            }
+        };
+        note();
+        assert_eq!(write(0), (Ok(()), 1));
+        assert_eq!(write(2), (Ok(()), 3));
+        assert!(store.keeps_room(), "no more than it takes");
+        note();
+        assert_eq!(write(3), (Ok(()), 4));
+        assert!(!store.keeps_room());
+        note();
+        assert_eq!(write(usize::MAX), (Err(Some(error)), 4));
+    }
+    // No other error takes room.
+    store.room.add(range);
+    let failed = store.write_with_room(range, || Err(io::Error::from_raw_os_error(libc::EIO)));
+    assert!(failed.is_err());
 }
 
 /// A sync that finds much to write writes it back piece by piece, where the file system does that, and takes each piece once.

@@ -1,0 +1,3 @@
+mod any_bytes;
+mod requests;
+mod socket;
