@@ -142,9 +142,8 @@ impl<S: squeue::EntryMarker, C: cqueue::EntryMarker, W, F: AsRawFd, M: Lasting> 
     ///
     /// # Safety
     ///
-    /// All memory that the entry names is the vector, what that names, or static. What the vector names is this ring's memory, memory that the operation owns
-    /// apart from its own value, or static. Nobody has a reference to what the kernel writes there, nor writes what it reads while he takes it for his own.
-    /// The entry's user data is what `entry` was given.
+    /// All memory that the entry names is the vector, or what that names: this ring's memory, memory that the operation owns apart from its own value, or
+    /// static memory. Nobody has a reference to what the kernel writes of it, which is no static memory. The entry's user data is what `entry` was given.
     pub unsafe fn begin(
         &mut self,
         work: W,

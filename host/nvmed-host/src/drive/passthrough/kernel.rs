@@ -159,7 +159,7 @@ impl<M: Lasting> Ring for NamespaceUring<M> {
             entry(work, namespace, memory, file, vector).map(|entry| entry.user_data(user))
         };
         // SAFETY: the entry names the vector alone, which names the memory, pages that the command owns, which are mapped memory apart from it, or the
-        // zeros. Commands that read memory are those with the zeros.
+        // zeros. All but the zeros is given out as volatile slices; the zeros are a Write's, and lie where the kernel lets nobody write.
         unsafe { self.ring.begin(work, entry) }
     }
 

@@ -4,6 +4,7 @@ mod commands;
 mod fake;
 mod faults;
 mod fuzz;
+mod real;
 
 use super::*;
 use crate::drive::nvme::identify::{ControllerPage, Limits, NamespacePage};
