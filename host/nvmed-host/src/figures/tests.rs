@@ -219,7 +219,8 @@ fn as_prometheus_wants_it() {
     }
     assert_eq!(of("nvmed_host_interrupts_total", &[("guest", "1")]), 5.0);
     assert_eq!(of("nvmed_host_in_flight_commands", &[("guest", "1")]), 2.0);
-    assert_eq!(of("nvmed_host_drive_state", &[("state", "good")]), 0.0);
+    assert_eq!(of("nvmed_host_drive_state", &[("state", "good")]), 1.0);
+    assert_eq!(of("nvmed_host_drive_state", &[("state", "failed")]), 0.0);
     assert_eq!(
         of("nvmed_host_guest_state", &[("guest", "0"), ("state", "waiting")]),
         1.0
