@@ -1,9 +1,10 @@
 -- What is in the drive is the mediator's, in every fine trace from the start.
-use Rattle.std.proofs.Common.{◌≡◌, ℕ, ◌+◌, inl, inr, Bool, List, slice_get, Option, Some, None}
-use Rattle.std.proofs.Common.{arith, refl, sym, ap, ◌∙◌, subst}
+use Rattle.std.proofs.Common.{◌≡◌, ℕ, ◌+◌, Bool, List, slice_get, Option, Some, None}
+use Rattle.std.proofs.Common.{arith, sym, ap, ◌∙◌, subst}
 use Rattle.nv_fine.proofs.Commands.{any-own}
 use Rattle.nv_fine.proofs.Mirroring.{first_world, start-holds, traced-holds}
 use Rattle.nv_fine.proofs.Mirrors.{Holds, IsOfTag}
+use Rattle.nv_fine.proofs.Named.{blocks-own, place-own, reads-own}
 use Rattle.nv_fine.proofs.Quiets.{world-lane_of}
 use Rattle.nv_fine.proofs.Spared.{fine, own, quiet-slot, side-flies}
 use Rattle.nv_fine.proofs.Traces.{laid, start-good}
@@ -21,15 +22,14 @@ use Rattle.nv_laws_sound.proofs.TakenEvents.{queued-at}
 use Rattle.nv_laws_sound.specs.Consistent.{IsBetween}
 use Rattle.nv_laws_sound.specs.LaidOut.{IsLaidOut}
 use Rattle.nv_machine.proofs.ContainedFetch.{AreSound}
-use Rattle.nv_machine.specs.Contained.{IsOwn, OfMemory, OfPages}
-use Rattle.nv_machine.specs.Entries.{IsOwnByte, NamesOwn}
+use Rattle.nv_machine.specs.Entries.{NamesOwn}
 use Rattle.nv_mem.specs.Places.{places_of}
 use Rattle.nv_model.proofs.Agreeing.{bytes_from-agree}
 use Rattle.nv_model.specs.Queue.{sqe_size}
 use Rattle.nv_world_model.specs.Area.{submission_slot}
 use Rattle.nv_world_model.specs.Geometry.{Geometry}
 use Rattle.nv_world_model.specs.SetUp.{SetUp, host_refusal_of}
-use Rattle.nv_world_model.specs.World.{Flying, InDevice, Lane, Queued, Tag, World, tag_in}
+use Rattle.nv_world_model.specs.World.{InDevice, Lane, Queued, Tag, World, tag_in}
 
 module _ (host_bytes lanes : ℕ) (geometry : Geometry) (laid : IsLaidOut host_bytes lanes geometry) (f : Fine) (w : World) (good : IsGood lanes geometry f)
     (holds : Holds lanes geometry f w) where
@@ -47,23 +47,17 @@ module _ (host_bytes lanes : ℕ) (geometry : Geometry) (laid : IsLaidOut host_b
           is = is.entry;
         }
 
-    -- what it may name is its guest's
-    pub own-byte : (at : ℕ) → IsOwnByte geometry is.given lane id at → IsOwn geometry f.side is.command.guest at
-    own-byte at (inl image) = OfMemory is.given is.guest image
-    own-byte at (inr pages) =
-        let flies = side-flies host_bytes lanes geometry laid f w good holds lane id is.command is.share InDevice is.flies in
-        let low = pages.0 in
-        OfPages lane id (Flying is.command is.share flies.0) flies.1 refl (omega (arith, low)) pages.1
-
-    owned : IsOwned geometry f lane id k
-    owned =
-        record {
-          of = of-guest;
-          places = λ work at has any. own-byte at (any-own (NamesOwn geometry is.given lane id) at (places_of work.pieces) (is.work work has) any);
-        }
-
   pub in-owned : (lane id : ℕ) (k : Working) → IsIn f.outside lane id k → IsOwned geometry f lane id k
-  in-owned lane id k there = owned lane id k (of-tag host_bytes lanes geometry laid f w good holds lane id there.d k there.on there.is)
+  in-owned lane id k there =
+      let is = of-tag host_bytes lanes geometry laid f w good holds lane id there.d k there.on there.is in
+      record {
+        of = of-guest lane id k is;
+        reads = reads-own host_bytes lanes geometry laid f w good holds lane id there.d k there.on there.is;
+        places = λ work at has any.
+            place-own host_bytes lanes geometry laid f w good holds lane id there.d k there.on there.is at
+            (any-own (NamesOwn geometry is.given lane id) at (places_of work.pieces) (is.work work has) any);
+        blocks = blocks-own host_bytes lanes geometry laid f w good holds lane id there.d k there.on there.is;
+      }
 
   -- an entry that waits
   pub waiting : (lane slot tail : ℕ) (d : DriveLane) → slice_get f.outside.lanes lane ≡ Some d → slice_get f.side.tails lane ≡ Some tail → IsBetween d.head tail slot

@@ -31,9 +31,10 @@ pub fn each_access_of_the_drive_is_for_a_command()
 {}
 
 /// In every fine trace from the start of any set-up that is not refused, with a fresh drive, what is in the drive is the mediator's. Each command that the drive has
-/// taken is of a tag that flies, by its identifier, with the entry that the mediator made of a share of a guest's command; and its source or destination, as the
-/// drive has found it in the list, is that guest's memory or in pages of that guest's tags. So is each entry that waits in a submission ring: it is in memory, whole.
-/// Whatever guests store meanwhile, at whichever times the drive reads, and which call of the mediator is under way: the definition of the drive is the only premise.
+/// taken is of a tag that flies, by its identifier, with the entry that the mediator made of a share of a guest's command. What the drive may read for it, of list and
+/// source, and what it may write is that guest's memory, or in pages of that guest's tags; and blocks that it names by SLBA and NLB are in that guest's extents. Each
+/// entry that waits in a submission ring is such an entry, and is in memory, whole.
+/// So it is whatever guests store meanwhile, at whichever times the drive reads, and whichever call of the mediator is under way.
 pub fn what_is_in_the_drive_is_the_mediators()
     // A drive can be fresh: over a memory of zeros.
     ensures start { (s : SetUp) (disk : ℕ → ℕ → ℕ) (kept : ℕ → Bool) →
