@@ -2,6 +2,7 @@
 -- start nothing is in it (profile).
 use Rattle.std.specs.Prelude.{◌≡◌, ℕ, true, List, replicate, slice_get, Some, None}
 use Rattle.std.specs.List.{list_any}
+use Rattle.nv_entry.specs.Completion.{cid_of as completed_cid}
 use Rattle.nv_fine.specs.Drive.{DriveLane, Outside, Working, is_at, may_see, reading}
 use Rattle.nv_fine.specs.Fine.{Fine}
 use Rattle.nv_laws_sound.specs.Phased.{AreRingsClear}
@@ -10,8 +11,8 @@ use Rattle.nv_machine.specs.Doing.{tag_at}
 use Rattle.nv_mem.specs.Places.{places_of}
 use Rattle.nv_model.specs.Judge.{Work, WorkUnit, has_blocks}
 use Rattle.nv_model.specs.Memory.{bytes_from}
-use Rattle.nv_model.specs.Queue.{sqe_size}
-use Rattle.nv_world_model.specs.Area.{submission_slot, tag_count}
+use Rattle.nv_model.specs.Queue.{cqe_size, sqe_size}
+use Rattle.nv_world_model.specs.Area.{completion_slot, submission_slot, tag_count}
 use Rattle.nv_world_model.specs.Geometry.{Geometry, Guest}
 use Rattle.nv_world_model.specs.SetUp.{SetUp}
 use Rattle.nv_world_model.specs.Share.{Share}
@@ -56,3 +57,13 @@ pub record IsOwned (geometry : Geometry) (f : Fine) (lane id : ℕ) (k : Working
 pub record IsWaiting (geometry : Geometry) (f : Fine) (lane slot : ℕ) : Type 0 where
   pub tag : ℕ
   pub of : IsOfGuest geometry f lane tag (bytes_from f.outside.memory (submission_slot geometry.mediator lane slot) sqe_size)
+
+-- and a completion that waits in a slot of the completion ring is that of a tag which flies, and which is in the drive no longer
+pub record IsPosted (geometry : Geometry) (f : Fine) (lane slot : ℕ) (d : DriveLane) : Type 0 where
+  pub tag : ℕ
+  pub names : completed_cid (bytes_from f.outside.memory (completion_slot geometry.mediator lane slot) cqe_size) ≡ tag
+  pub command : Command
+  pub share : Share
+  pub standing : Standing
+  pub flies : tag_at f.side lane tag ≡ Some (Flying command share standing)
+  pub gone : (k : Working) → slice_get d.working tag ≡ Some (Some k) → ⊥
