@@ -20,6 +20,7 @@ use Rattle.nv_machine.specs.InWorld.{IsLive}
 use Rattle.nv_mem.specs.GuestMap.{guest_of}
 use Rattle.nv_mem.specs.Places.{At, Bucket, Place, places_of}
 use Rattle.nv_model.proofs.Agreeing.{bytes_from-agree}
+use Rattle.nv_model.proofs.Judged.{IsSoundWork, verdict-sound}
 use Rattle.nv_model.specs.Dialogue.{in_memory}
 use Rattle.nv_model.specs.Judge.{Go, Work}
 use Rattle.nv_model.specs.Limits.{most_descriptors}
@@ -136,3 +137,9 @@ module _ (host_bytes lanes : ℕ) (geometry : Geometry) (laid : IsLaidOut host_b
       (ap (λ (e : List ℕ). in_memory read_over (reading geometry e)) (sym is.entry)
       ∙ known-in k.buffer read_over (reading geometry k.entry) (Go work) (λ at byte has. ap (λ (o : Option ℕ). unwrap_or o (w.host at)) has) told)
       (entry-own.bytes read_over list-read)
+
+  -- and is what its entry says
+  pub known-sound : (work : Work) → known k.buffer (reading geometry k.entry) ≡ Some (Go work) → IsSoundWork (λ _. true) geometry.disk_blocks k.entry work
+  known-sound work told =
+      verdict-sound (λ _. true) most_descriptors geometry.disk_blocks k.entry read_over work
+      (known-in k.buffer read_over (reading geometry k.entry) (Go work) (λ at byte has. ap (λ (o : Option ℕ). unwrap_or o (w.host at)) has) told)

@@ -84,7 +84,7 @@ module _ (P : Place → Type 0) (host : ℕ → ℕ) (limit blocks : ℕ) (entry
       (λ bytes. End (judge_ranges blocks opcode entry pieces (ranges_in (range_count_of entry) bytes)))) ∙ is)
 
   -- a command with a buffer transfers something
-  some-transfer : (form : Form) → form_has_buffer form ≡ true → 0 < form_transfer_len form entry
+  pub some-transfer : (form : Form) → form_has_buffer form ≡ true → 0 < form_transfer_len form entry
   some-transfer (Transfer dest) has_it = omega arith
   some-transfer Clear has_it = cc
   some-transfer Manage has_it = omega arith

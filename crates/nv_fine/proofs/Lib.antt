@@ -25,3 +25,6 @@ pub mod Fetching
 pub mod Returning
 pub mod Mirroring
 pub mod Owns
+pub mod Asks
+pub mod Questions
+pub mod Named

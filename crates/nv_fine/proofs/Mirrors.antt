@@ -14,6 +14,7 @@ use Rattle.nv_machine.specs.InWorld.{IsLive, side_of}
 use Rattle.nv_machine.specs.Machine.{call}
 use Rattle.nv_machine.specs.Unplaced.{AreSameButPlaces}
 use Rattle.nv_mem.specs.Places.{places_of}
+use Rattle.nv_model.proofs.Judged.{IsSoundWork}
 use Rattle.nv_model.specs.Judge.{Work}
 use Rattle.nv_model.specs.Queue.{sqe_size}
 use Rattle.nv_world_model.specs.Area.{bounce_page, completion_slot, list_bytes, list_page, prps_of, submission_slot}
@@ -53,6 +54,7 @@ pub record IsOfTag (geometry : Geometry) (w : World) (lane id : ℕ) (k : Workin
   pub read : (i byte : ℕ) → i < length (list_of geometry given share lane id) → k.buffer (list_page geometry.mediator lane id + i) ≡ Some byte
       → w.host (list_page geometry.mediator lane id + i) ≡ byte
   pub work : (work : Work) → k.work ≡ Some work → All (NamesOwn geometry given lane id) (places_of work.pieces)
+  pub sound : (work : Work) → k.work ≡ Some work → IsSoundWork (λ _. true) geometry.disk_blocks k.entry work
 
 pub record IsLaneMirrored (geometry : Geometry) (w : World) (lane : ℕ) (d : DriveLane) (v : DeviceLane) : Type 0 where
   pub head : d.head ≡ v.head

@@ -76,6 +76,7 @@ module _ (geometry : Geometry) (w z : World) (lane : ℕ) (rings : (at : ℕ) �
             (let short = list-short is.given is.command.entry is.share (list_page geometry.mediator lane id) (bounce_page geometry.mediator lane id) (omega (arith, aligned)) is.planned in
             sym (lists (list_page geometry.mediator lane id + i) (omega arith) (omega (arith, inside, short, below))) ∙ is.read i byte inside has);
         work = is.work;
+        sound = is.sound;
       }
 
   pub lane-kept : (d : DriveLane) (v : DeviceLane) → ((id : ℕ) (t : Tag) → tag_of w lane id ≡ Some t → (id < tag_count) × (tag_of z lane id ≡ Some t))

@@ -1,5 +1,5 @@
 -- A call returns: the world goes on with it, and what the drive has stays what it has there.
-use Rattle.std.proofs.Common.{◌≡◌, ℕ, zero, suc, ◌+◌, ◌-◌, ◌<◌, List, [], ◌∷◌, length, map, slice_get, All, Option, Some, None}
+use Rattle.std.proofs.Common.{◌≡◌, ℕ, zero, suc, ◌+◌, ◌-◌, ◌<◌, true, List, [], ◌∷◌, length, map, slice_get, All, Option, Some, None}
 use Rattle.std.proofs.Common.{arith, refl, sym, ap, ◌∙◌, subst}
 use Rattle.std.proofs.lemmas.List.{length-map}
 use Rattle.std.proofs.lemmas.List.Elements.{All-nil}
@@ -29,6 +29,7 @@ use Rattle.nv_machine.specs.InWorld.{side_of}
 use Rattle.nv_machine.specs.Machine.{call}
 use Rattle.nv_machine.specs.Unplaced.{AreSameButPlaces, ComeToSameButPlaces}
 use Rattle.nv_mem.specs.Places.{places_of}
+use Rattle.nv_model.proofs.Judged.{IsSoundWork}
 use Rattle.nv_model.specs.Memory.{bytes_from}
 use Rattle.nv_model.specs.Queue.{sqe_size}
 use Rattle.nv_world_model.specs.Area.{lane_start, list_page, submission_slot}
@@ -133,6 +134,7 @@ module _ (host_bytes lanes : ℕ) (geometry : Geometry) (laid : IsLaidOut host_b
         entry = is.entry;
         read = λ i byte inside none. no-one (z.host (list_page geometry.mediator lane id + i) ≡ byte) byte none;
         work = λ work none. no-one (All (NamesOwn geometry is.given lane id) (places_of work.pieces)) work none;
+        sound = λ work none. no-one (IsSoundWork (λ _. true) geometry.disk_blocks k.entry work) work none;
       }
 
   of-tag-then : (lane id : ℕ) (k : Working) → IsOfTag geometry w lane id k → IsOfTag geometry z lane id k
@@ -152,6 +154,7 @@ module _ (host_bytes lanes : ℕ) (geometry : Geometry) (laid : IsLaidOut host_b
             ∙ sym (list-there host_bytes lanes geometry laid z comes.live lanes-many lane id (record k { buffer = (λ _. None); work = None }) (bare lane id k is))) inside)
             ∙ is.read i byte inside has;
         work = is.work;
+        sound = is.sound;
       }
 
   noted-then : (lane : ℕ) (r : DeviceLane) (tail : ℕ) (there : slice_get w.device lane ≡ Some r) → slice_get now.side.tails lane ≡ Some tail → (at byte : ℕ)

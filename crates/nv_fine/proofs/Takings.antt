@@ -210,6 +210,7 @@ module _ (host_bytes lanes : ℕ) (geometry : Geometry) (laid : IsLaidOut host_b
         entry = entry_is;
         read = λ i byte inside none. (let bad : None ≡ Some byte = none in cc);
         work = λ work none. (let bad : None ≡ Some work = none in cc);
+        sound = λ work none. (let bad : None ≡ Some work = none in cc);
       }
 
   working-was : (id : ℕ) (k : Working) → (id == cid_of entry) ≡ false → slice_get d.working id ≡ Some (Some k) → IsOfTag geometry z lane id k

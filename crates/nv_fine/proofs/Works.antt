@@ -6,7 +6,7 @@ use Rattle.std.proofs.lemmas.List.Elements.{All-drop, All-nil, All-take}
 use Rattle.std.proofs.lemmas.Option.{option_and_then_some}
 use Rattle.std.specs.List.{filter, list_all, list_any}
 use Rattle.std.specs.Prelude.{option_and_then}
-use Rattle.nv_fine.proofs.Commands.{any-own, id-below, known-own, lane-below, none-own, own-off}
+use Rattle.nv_fine.proofs.Commands.{any-own, id-below, known-own, known-sound, lane-below, none-own, own-off}
 use Rattle.nv_fine.proofs.Entries.{drive-holds}
 use Rattle.nv_fine.proofs.Mirrors.{Holds, IsLaneMirrored, IsOfTag, behind, list_of, undone}
 use Rattle.nv_fine.proofs.Placed.{InList, IsFixed}
@@ -23,6 +23,7 @@ use Rattle.nv_laws_sound.proofs.PlanSizes.{list-short}
 use Rattle.nv_laws_sound.specs.LaidOut.{IsLaidOut}
 use Rattle.nv_machine.specs.Entries.{NamesOwn}
 use Rattle.nv_mem.specs.Places.{Place, places_of}
+use Rattle.nv_model.proofs.Judged.{IsSoundWork}
 use Rattle.nv_model.specs.Judge.{ClearBlock, Go, KeepAll, LeaveBlock, MoveBlock, Refuse, Verdict, Work, WorkUnit, form_of, is_read}
 use Rattle.nv_model.specs.Limits.{block}
 use Rattle.nv_model.specs.Memory.{stored}
@@ -61,7 +62,8 @@ verdict-has p P (Some (Go work)) rule ruled has = has work refl ruled
 of-tag-with : (geometry : Geometry) (w : World) (lane id : ℕ) (k now : Working) (is : IsOfTag geometry w lane id k) → now.entry ≡ k.entry
     → ((i byte : ℕ) → i < length (list_of geometry is.given is.share lane id) → now.buffer (list_page geometry.mediator lane id + i) ≡ Some byte
     → w.host (list_page geometry.mediator lane id + i) ≡ byte)
-    → ((work : Work) → now.work ≡ Some work → All (NamesOwn geometry is.given lane id) (places_of work.pieces)) → IsOfTag geometry w lane id now
+    → ((work : Work) → now.work ≡ Some work
+    → All (NamesOwn geometry is.given lane id) (places_of work.pieces) × IsSoundWork (λ _. true) geometry.disk_blocks k.entry work) → IsOfTag geometry w lane id now
 of-tag-with geometry w lane id k now is same read work =
     record {
       command = is.command;
@@ -73,7 +75,8 @@ of-tag-with geometry w lane id k now is same read work =
       some = is.some;
       entry = same ∙ is.entry;
       read = read;
-      work = work;
+      work = λ x has. (work x has).0;
+      sound = λ x has. subst (λ (e : List ℕ). IsSoundWork (λ _. true) geometry.disk_blocks e x) (sym same) (work x has).1;
     }
 
 module _ (host_bytes lanes : ℕ) (geometry : Geometry) (laid : IsLaidOut host_bytes lanes geometry) (f : Fine) (w : World) (good : IsGood lanes geometry f)
@@ -113,7 +116,7 @@ module _ (host_bytes lanes : ℕ) (geometry : Geometry) (laid : IsLaidOut host_b
     abbrev list : ℕ
     list = list_page geometry.mediator lane id
 
-    short : (i : ℕ) → i < length (list_of geometry (of-tag lane id d k there at).given (of-tag lane id d k there at).share lane id)
+    pub short : (i : ℕ) → i < length (list_of geometry (of-tag lane id d k there at).given (of-tag lane id d k there at).share lane id)
         → list_page geometry.mediator lane id + i < bounce_page geometry.mediator lane id
     short i inside =
         let pages = laid.pages in
@@ -121,7 +124,7 @@ module _ (host_bytes lanes : ℕ) (geometry : Geometry) (laid : IsLaidOut host_b
         omega (arith, inside, few)
 
     -- a byte of its list is as the world has it
-    list-now : (i : ℕ) → i < length (list_of geometry (of-tag lane id d k there at).given (of-tag lane id d k there at).share lane id)
+    pub list-now : (i : ℕ) → i < length (list_of geometry (of-tag lane id d k there at).given (of-tag lane id d k there at).share lane id)
         → f.outside.memory (list_page geometry.mediator lane id + i) ≡ w.host (list_page geometry.mediator lane id + i)
     list-now i inside =
         let flies = side-flies host_bytes lanes geometry laid f w good holds lane id is.command is.share InDevice is.flies in
@@ -131,7 +134,7 @@ module _ (host_bytes lanes : ℕ) (geometry : Geometry) (laid : IsLaidOut host_b
     pub noting : (to : ℕ) → IsOfTag geometry w lane id (record k { buffer = noted to f.outside.memory k.buffer })
     noting to =
         of-tag-with geometry w lane id k (record k { buffer = noted to f.outside.memory k.buffer }) is refl
-        (λ i byte inside has. by i byte inside (list_page geometry.mediator lane id + i == to) refl has) is.work
+        (λ i byte inside has. by i byte inside (list_page geometry.mediator lane id + i == to) refl has) (λ x has. (is.work x has, is.sound x has))
       where
         by : (i byte : ℕ) → i < length (list_of geometry (of-tag lane id d k there at).given (of-tag lane id d k there at).share lane id) → (b : Bool)
             → (list_page geometry.mediator lane id + i == to) ≡ b
@@ -144,8 +147,11 @@ module _ (host_bytes lanes : ℕ) (geometry : Geometry) (laid : IsLaidOut host_b
         → IsOfTag geometry w lane id (record k { work = Some work; left = left })
     knowing work left told =
         of-tag-with geometry w lane id k (record k { work = Some work; left = left }) is refl is.read
-        (λ other same. subst (λ (x : Work). All (NamesOwn geometry (of-tag lane id d k there at).given lane id) (places_of x.pieces)) (some-same work other same)
-        (known-own host_bytes lanes geometry laid w holds.live holds.many lane id k is work told))
+        (λ other same. subst (λ (x : Work). All (NamesOwn geometry (of-tag lane id d k there at).given lane id) (places_of x.pieces)
+        × IsSoundWork (λ _. true) geometry.disk_blocks k.entry x) (some-same work other same) (
+          known-own host_bytes lanes geometry laid w holds.live holds.many lane id k is work told,
+          known-sound host_bytes lanes geometry laid w holds.live holds.many lane id k is work told,
+        ))
 
     -- bytes of its destination are in no list page
     got-off : (work : Work) → k.work ≡ Some work → (got : List Place) → All (NamesOwn geometry (of-tag lane id d k there at).given lane id) got → (i : ℕ)
@@ -164,7 +170,7 @@ module _ (host_bytes lanes : ℕ) (geometry : Geometry) (laid : IsLaidOut host_b
         (λ i byte inside got_it.
         is.read i byte inside
         (sym (ap (λ (b : Bool). cond b (Some (m.memory (list_page geometry.mediator lane id + i))) (k.buffer (list_page geometry.mediator lane id + i)))
-        (got-off work has got each i inside)) ∙ got_it)) is.work
+        (got-off work has got each i inside)) ∙ got_it)) (λ x known_it. (is.work x known_it, is.sound x known_it))
 
   -- ---- the accesses
 
@@ -227,7 +233,7 @@ module _ (host_bytes lanes : ℕ) (geometry : Geometry) (laid : IsLaidOut host_b
           memory-holds lanes geometry
               (record f { outside = record f.outside { lanes = set f.outside.lanes lane (record d { working = set d.working id (Some now) }) } }) w
               (stored f.outside.memory to (byte ∷ []))
-              (command-holds lane id d now f.outside.disk f.outside.kept there (of-tag-with geometry w lane id k now tag refl tag.read tag.work))
+              (command-holds lane id d now f.outside.disk f.outside.kept there (of-tag-with geometry w lane id k now tag refl tag.read (λ x known_it. (tag.work x known_it, tag.sound x known_it))))
               (λ at fixed. stored-one f.outside.memory to byte at (λ same.
               (let below = id-below host_bytes lanes geometry laid w holds.live holds.many lane id k tag in
               own-off host_bytes lanes geometry laid tag.command.guest tag.given tag.guest lane id to below
