@@ -25,6 +25,7 @@ pub mod Fetching
 pub mod Returning
 pub mod Mirroring
 pub mod Owns
+pub mod Reached
 pub mod Asks
 pub mod Questions
 pub mod Named

@@ -61,7 +61,7 @@ module _ (geometry : Geometry) (tails : List ℕ) (o : Outside) where
       option_and_then_some (λ (w : Working). rule w d) slot q in_slot
       (λ w found ruled. has w d there (at ∙ ap (λ (x : Option Working). Some x) found) ruled)))
 
-  work-has : (lane id : ℕ) (rule : Work → Working → DriveLane → Option Outside) (q : Outside) (P : Type 0) → on_work o lane id rule ≡ Some q
+  pub work-has : (lane id : ℕ) (rule : Work → Working → DriveLane → Option Outside) (q : Outside) (P : Type 0) → on_work o lane id rule ≡ Some q
       → ((work : Work) (w : Working) (d : DriveLane) → slice_get o.lanes lane ≡ Some d → IsAtWork o lane id work → rule work w d ≡ Some q → P) → P
   work-has lane id rule q P is has =
       working-has lane id (λ w d. option_and_then (λ work. rule work w d) w.work) q P is (λ w d there found ruled.
@@ -89,7 +89,7 @@ module _ (geometry : Geometry) (tails : List ℕ) (o : Outside) where
   block-elsewhere opcode.WriteZeroes work index lba at offset memory off = refl
   block-elsewhere opcode.DatasetManagement work index lba at offset memory off = refl
 
-  unit-elsewhere : (unit : WorkUnit) (work : Work) (at offset : ℕ) (memory : ℕ → ℕ) → (unit_lba unit ≡ at → ⊥)
+  pub unit-elsewhere : (unit : WorkUnit) (work : Work) (at offset : ℕ) (memory : ℕ → ℕ) → (unit_lba unit ≡ at → ⊥)
       → (unit_moved unit work memory o.disk o.kept).disk at offset ≡ o.disk at offset
   unit-elsewhere (MoveBlock index lba) work at offset memory off = block-elsewhere work.opcode work index lba at offset memory off
   unit-elsewhere (ClearBlock lba mark) work at offset memory off = written-elsewhere o.disk lba at offset _ off
@@ -97,7 +97,7 @@ module _ (geometry : Geometry) (tails : List ℕ) (o : Outside) where
   unit-elsewhere (KeepAll blocks) work at offset memory off = refl
 
   -- a unit is one of the command's
-  due-is : (work : Work) (left : List ℕ) (number : ℕ) (unit : WorkUnit) → unit_due work left number ≡ Some unit → slice_get work.units number ≡ Some unit
+  pub due-is : (work : Work) (left : List ℕ) (number : ℕ) (unit : WorkUnit) → unit_due work left number ≡ Some unit → slice_get work.units number ≡ Some unit
   due-is work left number unit is = by (is_read work.opcode) is
     where
       left-is : (test : Bool) → cond test (slice_get work.units number) None ≡ Some unit → slice_get work.units number ≡ Some unit
@@ -109,7 +109,7 @@ module _ (geometry : Geometry) (tails : List ℕ) (o : Outside) where
       by false due = left-is (list_any (λ k. k == number) left) due
 
   -- and is done as it is, or its block is left alone
-  chosen-lba : (zeroes leaves : Bool) (form : Form) (unit one : WorkUnit) → chosen zeroes leaves form unit ≡ Some one → unit_lba one ≡ unit_lba unit
+  pub chosen-lba : (zeroes leaves : Bool) (form : Form) (unit one : WorkUnit) → chosen zeroes leaves form unit ≡ Some one → unit_lba one ≡ unit_lba unit
   chosen-lba zeroes false form unit one is = ap unit_lba (sym (same-unit unit one is))
     where
       same-unit : (x y : WorkUnit) → Some x ≡ Some y → x ≡ y

@@ -3,4 +3,5 @@ pub mod Fine
 pub mod Turns
 pub mod Reach
 pub mod Owned
+pub mod Whose
 pub mod Rows

@@ -6,6 +6,7 @@ ghost use Rattle.nv_fine.specs.Fine.{Access, Call, Fine, traced};
 ghost use Rattle.nv_fine.specs.Owned.{IsFresh, IsOwned, IsPosted, IsWaiting, fresh_lane};
 ghost use Rattle.nv_fine.specs.Reach.{IsForCommands, IsIn};
 ghost use Rattle.nv_fine.specs.Turns.{StaysWithin, Turn, start_of, turned};
+ghost use Rattle.nv_fine.specs.Whose.{IsItsGuests};
 ghost use Rattle.nv_laws_sound.specs.Consistent.{IsBetween};
 ghost use Rattle.nv_mem.specs.GuestMap.{IsSound};
 ghost use Rattle.nv_world_model.specs.Geometry.{Geometry, Guest};
@@ -52,4 +53,13 @@ pub fn what_is_in_the_drive_is_the_mediators()
         ((number : ℕ) (guest : Guest) → slice_get s.geometry.guests number ≡ Some guest → IsSound guest.memory_map) → IsFresh s o →
         traced s.geometry zeroes accesses (start_of s o) ≡ Some f → slice_get f.side.lanes lane ≡ Some l → slice_get f.outside.lanes lane ≡ Some d →
         IsBetween l.head d.posted slot → IsPosted s.geometry f lane slot d }
+{}
+
+/// In every fine trace from such a start with a fresh drive, each access of the drive is for one guest: the one whose tag has the identifier that the command goes by. What
+/// it reads or changes in memory is that guest's memory, or in pages of that guest's tags; or an entry that the mediator put into a submission ring, or the completion that
+/// comes next. The blocks that it changes are in that guest's extents, but for those that a Dataset Management names in its ranges.
+pub fn each_access_of_the_drive_is_its_guests()
+    ensures { (s : SetUp) (o p : Outside) (zeroes : Bool) (accesses : List Access) (a : DriveAccess) (f : Fine) → host_refusal_of s ≡ None →
+        ((number : ℕ) (guest : Guest) → slice_get s.geometry.guests number ≡ Some guest → IsSound guest.memory_map) → IsFresh s o →
+        traced s.geometry zeroes accesses (start_of s o) ≡ Some f → driven s.geometry zeroes f.side.tails a f.outside ≡ Some p → IsItsGuests s.geometry f a p }
 {}
