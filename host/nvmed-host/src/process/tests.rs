@@ -307,6 +307,16 @@ fn a_process_finds_memory_and_socket() {
     assert!(!path.exists());
 }
 
+/// The descriptors that a process has, in order.
+fn descriptors_of(process: u32) -> Vec<RawFd> {
+    let mut open: Vec<RawFd> = fs::read_dir(format!("/proc/{process}/fd"))
+        .unwrap()
+        .map(|entry| entry.unwrap().file_name().to_str().unwrap().parse().unwrap())
+        .collect();
+    open.sort_unstable();
+    open
+}
+
 /// It has no descriptor of this process but those that it is given, whatever this process was given itself.
 #[test]
 fn a_process_has_few_descriptors() {
@@ -319,15 +329,11 @@ fn a_process_has_few_descriptors() {
             .ok()
             .filter(|name| name == b"sleep\n")
     });
-    let mut open: Vec<RawFd> = fs::read_dir(format!("/proc/{}/fd", process.id()))
-        .unwrap()
-        .map(|entry| entry.unwrap().file_name().to_str().unwrap().parse().unwrap())
-        .collect();
-    open.sort_unstable();
     let folder = listener.folder.as_ref().unwrap().descriptor.as_raw_fd();
     let mut wanted = vec![0, 1, 2, memory.as_fd().as_raw_fd(), folder];
     wanted.sort_unstable();
-    assert_eq!(open, wanted);
+    // its loader has one more for a moment
+    wait_for(|| (descriptors_of(process.id()) == wanted).then_some(()));
     nix::unistd::close(number).unwrap();
 }
 
