@@ -7,7 +7,7 @@ mod program;
 
 use std::fs::{File, OpenOptions};
 use std::io;
-use std::os::unix::net::UnixListener;
+use std::os::unix::net::{UnixListener, UnixStream};
 use std::process::Command;
 use std::time::{Duration, Instant};
 
@@ -112,6 +112,10 @@ fn a_socket_that_another_program_listens_on_is_left_to_it() {
     assert!(said.contains(": another process listens there"), "{said}");
     assert!(path.exists());
     drop(other);
+    // a child of another test has it, too, until it begins its program
+    while UnixStream::connect(&path).is_ok() {
+        std::thread::sleep(Duration::from_millis(5));
+    }
     let mut program = Program::start(&folder, &configuration(&folder, 1, ""), &[]);
     let _guest = connect(&folder, "g0");
     program.signal(Signal::SIGTERM);
