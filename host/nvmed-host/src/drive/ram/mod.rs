@@ -7,7 +7,7 @@
 //! Commands are begun in the order of the rings, from lanes in turn, and may end in any order. What moves little is carried out at once. What takes long
 //! goes on piece by piece, in turn with the others of its kind, and takes at most half of a turn from new commands; so no guest's command waits for
 //! another's to end. A store that may wait for a device has threads for all that may wait: reads of what is not in the page cache, writes, zeros, and
-//! what is made durable. Each kind waits for its own alone; the thread that calls [`Drive::work`] waits for none, and takes no lock.
+//! what is made durable. The thread that calls [`Drive::work`] waits for none of them, and for no lock.
 //!
 //! Durability:
 //!
@@ -16,6 +16,8 @@
 //! | memory | at once | it is carried out | the program's end: nothing |
 //! | a file of a tmpfs | at once | it is carried out | the program's end: all that was completed; the machine's: nothing |
 //! | a file of a disk | all writes that were completed before it came are durable (`fdatasync`) | its blocks are durable (`RWF_DSYNC`, or `fdatasync` after zeros) | SIGKILL: all that was completed; the machine's end: what was flushed or forced |
+//!
+//! Deallocated blocks of a file are made zero in place where that can be, and their room is given back while nobody writes.
 //!
 //! The first error while something is made durable is kept: from then on writes and flushes fail with Write Fault, since nobody knows what the device has
 //! lost, and blocks can still be read. The same holds for an image that was cut off.
