@@ -508,7 +508,7 @@ fn fails(manner: Manner, at_least: Duration) {
         let asked = Instant::now();
         let _value = rig.guests[0].read(0x24);
         assert!(
-            asked.elapsed() < Duration::from_millis(200),
+            asked.elapsed() < Duration::from_secs(1),
             "registers are answered meanwhile"
         );
         thread::sleep(Duration::from_millis(5));

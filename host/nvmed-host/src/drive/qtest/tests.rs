@@ -603,9 +603,16 @@ fn qemu_ends() {
 fn what_is_no_dword_of_the_bar_is_refused() {
     let bench = Bench::new(|_| {});
     let (mut drive, thread) = bench.open();
-    let before = bench.seen().commands;
     let bar = drive.controller.access_mut();
     let end = bar.bytes();
+    // what was posted before is counted once it was read there
+    let before = loop {
+        let seen = bench.seen().commands;
+        std::thread::sleep(Duration::from_millis(100));
+        if bench.seen().commands == seen {
+            break seen;
+        }
+    };
     for offset in [1, 2, end - 2, end, u32::MAX - 3, u32::MAX] {
         let words = format!("BAR0 has no dword at {offset:#x}");
         assert_eq!(bar.read(offset).unwrap_err().to_string(), words);
