@@ -16,6 +16,7 @@ use std::path::Path;
 use std::time::Duration;
 
 pub use messages::*;
+use nix::errno::Errno;
 use nix::poll::{poll, PollFd, PollFlags, PollTimeout};
 use nix::sys::eventfd::{EfdFlags, EventFd};
 use nix::sys::memfd::{memfd_create, MemFdCreateFlag};
@@ -178,13 +179,13 @@ impl Client {
         let rights = [ControlMessage::ScmRights(&raw)];
         let control = if raw.is_empty() { &rights[..0] } else { &rights[..] };
         let part = [IoSlice::new(bytes)];
-        Ok(sendmsg::<()>(
-            self.socket.as_raw_fd(),
-            &part,
-            control,
-            MsgFlags::MSG_NOSIGNAL,
-            None,
-        )?)
+        let flags = MsgFlags::MSG_NOSIGNAL;
+        loop {
+            match sendmsg::<()>(self.socket.as_raw_fd(), &part, control, flags, None) {
+                Err(Errno::EINTR) => {}
+                sent => return Ok(sent?),
+            }
+        }
     }
 
     /// Any bytes; the descriptors go with the first of them.
@@ -209,7 +210,10 @@ impl Client {
             let mut control = nix::cmsg_space!([RawFd; 16]);
             let mut parts = [IoSliceMut::new(&mut bytes[at..])];
             let flags = MsgFlags::MSG_CMSG_CLOEXEC;
-            let got = recvmsg::<()>(self.socket.as_raw_fd(), &mut parts, Some(&mut control), flags)?;
+            let got = match recvmsg::<()>(self.socket.as_raw_fd(), &mut parts, Some(&mut control), flags) {
+                Err(Errno::EINTR) => continue,
+                got => got?,
+            };
             for message in got.cmsgs()? {
                 if let ControlMessageOwned::ScmRights(raw) = message {
                     // SAFETY: the kernel has opened them for this process just now, and nobody else has them.
