@@ -320,6 +320,7 @@ impl Kernel for FakeKernel {
         Ok(())
     }
 
+    // SAFETY: nothing is mapped: what is asked for is noted.
     unsafe fn map(&self, container: BorrowedFd<'_>, map: &DmaMap) -> io::Result<()> {
         let mut state = self.asked("map", is_of(container, "/dev/vfio/vfio"))?;
         self.note_map(&mut state, map);
@@ -350,6 +351,7 @@ impl Kernel for FakeKernel {
             .map(|s| s.ranges.clone())
     }
 
+    // SAFETY: as above.
     unsafe fn map_into(&self, iommufd: BorrowedFd<'_>, space: u32, map: &DmaMap) -> io::Result<()> {
         let mut state = self.asked("map into", is_of(iommufd, "/dev/iommu") && space == 5)?;
         self.note_map(&mut state, map);
